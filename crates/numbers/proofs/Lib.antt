@@ -1,0 +1,4 @@
+mod Write
+mod Read
+mod Heard
+pub mod Spelled
