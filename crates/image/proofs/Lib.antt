@@ -1,0 +1,5 @@
+pub mod Standing
+pub mod Checking
+pub mod Lying
+pub mod Accepting
+pub mod Laying

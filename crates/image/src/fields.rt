@@ -1,0 +1,68 @@
+//! The numbers of a job and their limits.
+ghost use Rattle.image.specs.Checks.{field-check, field-place, first-failing, largest, least};
+ghost use mathlib.Core.List.{[], _∷_};
+ghost use mathlib.Core.Path.{_≡_};
+use faults::Fault;
+use faults::Refusal;
+
+/// The sizes of a job: its CPUs, its threads, its nodes, the packets that a ring holds and the counters on a CPU.
+#[derive(Clone, Copy, PartialEq, Eq, Debug)]
+pub struct Sizes {
+    pub cpus: u64,
+    pub threads: u64,
+    pub nodes: u64,
+    pub packets: u64,
+    pub counters: u64,
+}
+
+/// A number of a job. Its own number is the place by which a refusal names it.
+#[derive(Clone, Copy, PartialEq, Eq, Debug)]
+pub enum Field {
+    Exclusion = 1,
+    Grace = 2,
+    Cpus = 3,
+    Threads = 4,
+    Nodes = 5,
+    Packets = 6,
+    Counters = 7,
+    Signature = 8,
+    TextWord = 9,
+}
+
+impl Field {
+    /// The place by which a refusal names the field.
+    pub fn place(self) -> usize
+        ensures placed { λ r. ⌜ r ≡ field-place self ⌝ }
+    {
+        self as usize
+    }
+
+    /// The least and the largest number that the field may have.
+    pub fn limits(self) -> (u64, u64)
+        ensures limited { λ r. ⌜ r ≡ (least self, largest self) ⌝ }
+    {
+        match self {
+            Field::Exclusion => (0, 2),
+            Field::Grace => (0, 255),
+            Field::Cpus => (1, 8),
+            Field::Threads => (1, 16),
+            Field::Nodes => (0, 255),
+            Field::Packets => (1, 15),
+            Field::Counters => (1, 8),
+            Field::Signature => (0, 4294967295),
+            Field::TextWord => (0, 4294967295),
+        }
+    }
+
+    /// The number, if the field may have it.
+    pub fn accept(self, n: u64) -> Result<u64, Fault>
+        ensures defined { λ r. ⌜ r ≡ first-failing n (field-check self n ∷ []) ⌝ }
+    {
+        let (least, largest) = self.limits();
+        if least <= n && n <= largest {
+            Ok(n)
+        } else {
+            Err(Fault::at(Refusal::OutOfRange, self.place()))
+        }
+    }
+}
