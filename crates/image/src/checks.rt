@@ -4,6 +4,7 @@ ghost use Rattle.image.specs.Checks.{all-descriptor-checks, all-pass, checked-
 ghost use Rattle.image.specs.Accepted.{Accepted-exactly, First-that-fails, Laid-out-if-accepted};
 ghost use Rattle.image.specs.Layout.{descriptor-of, section-of, word-at};
 ghost use Rattle.image.specs.Words.{code, kinds, section-words};
+ghost use Rattle.std.specs.Results.{Cases};
 ghost use lib.ListN.{length};
 ghost use mathlib.Core.List.{[], _∷_};
 ghost use mathlib.Core.Path.{_≡_};
@@ -117,6 +118,7 @@ fn check_sizes(sizes: &Sizes) -> Result<u64, Fault>
 /// The number of words, if a text may have so many.
 pub fn accept_text_length(words: u64) -> Result<u64, Fault>
     ensures defined { λ r. ⌜ r ≡ first-failing words (text-check words ∷ []) ⌝ }
+    ensures within_limits { λ r. ⌜ Cases r (λ m. (m ≡ words) × (1 ≤ words) × (words ≤ 256)) (λ _. Unit {0}) ⌝ }
 {
     if words == 0 || words > TEXT_LENGTH as u64 {
         return Err(Fault::at(Refusal::ImageLength, 1));

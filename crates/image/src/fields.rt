@@ -1,5 +1,7 @@
 //! The numbers of a job and their limits.
+ghost use Prim.Native.Nat.{_≤_};
 ghost use Rattle.image.specs.Checks.{field-check, field-place, first-failing, largest, least};
+ghost use Rattle.std.specs.Results.{Cases};
 ghost use mathlib.Core.List.{[], _∷_};
 ghost use mathlib.Core.Path.{_≡_};
 use faults::Fault;
@@ -57,6 +59,7 @@ impl Field {
     /// The number, if the field may have it.
     pub fn accept(self, n: u64) -> Result<u64, Fault>
         ensures defined { λ r. ⌜ r ≡ first-failing n (field-check self n ∷ []) ⌝ }
+        ensures within_limits { λ r. ⌜ Cases r (λ m. (m ≡ n) × (least self ≤ n) × (n ≤ largest self)) (λ _. Unit {0}) ⌝ }
     {
         let (least, largest) = self.limits();
         if least <= n && n <= largest {

@@ -1,0 +1,2 @@
+-- The laws of schedules.
+use mathlib.Core.List.{List}

@@ -1,0 +1,80 @@
+//! The calls of a schedule, read one by one.
+ghost use Prim.Native.Nat.{_+_, _<_, _≤_, ℕ};
+ghost use Rattle.schedule.specs.Reading.{Calls-read, call-at, call-by, calls-from, operation-at};
+ghost use Rattle.std.specs.Of.Vec.{vec-items};
+ghost use Rattle.std.specs.Results.{Cases};
+ghost use Rattle.std.specs.Vec.{made};
+ghost use lib.ListN.{length};
+ghost use mathlib.Core.Path.{_≡_};
+use calls::Call;
+use calls::CallDebug;
+use calls::CallPartialEq;
+use calls::RawOperation;
+use faults::Fault;
+use faults::Refusal;
+use numbers::number_at;
+
+/// A call of a schedule with the offset of its letter.
+#[derive(Clone, Copy, PartialEq, Eq, Debug)]
+pub struct CallAt {
+    pub at: usize,
+    pub call: Call,
+}
+
+/// The operation at an offset: kind, counter and amount, each any number.
+fn operation_at(bytes: &[u8], at: usize) -> Result<(RawOperation, usize), Fault>
+    ensures defined { λ r. ⌜ r ≡ operation-at (now (bytes .entry)) at ⌝ }
+    ensures goes_on { λ r. ⌜ Cases r (λ p. (at < p .1) × (p .1 ≤ length (now (bytes .entry)))) (λ _. Unit {0}) ⌝ }
+{
+    let (kind, at) = number_at(bytes, at)?;
+    let (counter, at) = number_at(bytes, at)?;
+    let (amount, at) = number_at(bytes, at)?;
+    let operation = RawOperation {
+        kind,
+        counter,
+        amount,
+    };
+    Ok((operation, at))
+}
+
+/// The call whose letter stands at an offset, and the offset behind it. Its first letter says which call it is.
+pub fn call_at(bytes: &[u8], first: usize) -> Result<(Call, usize), Fault>
+    ensures defined { λ r. ⌜ r ≡ call-at (now (bytes .entry)) first ⌝ }
+    ensures goes_on { λ r. ⌜ Cases r (λ p. (first < p .1) × (p .1 ≤ length (now (bytes .entry)))) (λ _. Unit {0}) ⌝ }
+{
+    let Some(&letter) = bytes.get(first) else {
+        return Err(Fault::at(Refusal::EndsInside, first));
+    };
+    let at = first + 1;
+    match char::from(letter) {
+        'e' => {
+            let (thread, at) = number_at(bytes, at)?;
+            let (operation, at) = operation_at(bytes, at)?;
+            Ok((Call::Enlist { thread, operation }, at))
+        }
+        'r' => {
+            let (cpu, at) = number_at(bytes, at)?;
+            Ok((Call::Run { cpu }, at))
+        }
+        'a' => {
+            let (cpu, at) = number_at(bytes, at)?;
+            let (instructions, at) = number_at(bytes, at)?;
+            Ok((Call::Advance { cpu, instructions }, at))
+        }
+        's' => {
+            let (cpu, at) = number_at(bytes, at)?;
+            let (thread, at) = number_at(bytes, at)?;
+            Ok((Call::Switch { cpu, thread }, at))
+        }
+        'i' => {
+            let (cpu, at) = number_at(bytes, at)?;
+            Ok((Call::Idle { cpu }, at))
+        }
+        'g' => {
+            let (thread, at) = number_at(bytes, at)?;
+            let (operation, at) = operation_at(bytes, at)?;
+            Ok((Call::Signal { thread, operation }, at))
+        }
+        _ => Err(Fault::at(Refusal::UnknownLetter, first)),
+    }
+}
