@@ -10,7 +10,7 @@ use borrow.Author.Tests.{lt-ltb, le-ltb, ltb-true, ltb-false}
 use lib.Dec.{ltb}
 use lib.ListN.{length, take, drop, getD, length-append, length-drop}
 use Rattle.std.proofs.shelf.Bits.{div-below}
-use Rattle.std.proofs.shelf.Lists.{take-append-drop, drop-at}
+use Rattle.std.proofs.shelf.Lists.{take-append-drop, drop-at, drop-drop}
 use Rattle.std.specs.Results.{Cases}
 use Rattle.std.specs.declared.result.Result.{Result}
 use Rattle.std.specs.declared.result.Result.the-variants.{Ok, Err}
@@ -162,3 +162,19 @@ goes-on bytes first ok r e = go r (reads bytes first ok r e)
         let long = simp (length-drop, length-append) at (ap length parts) in
         (omega arith, omega arith)
     go (Err f) _ = tt
+
+-- A number whose written spelling stands at an offset is read there; and a number that is read stood there as it is written.
+pub read-there : (bytes : List ℕ) (at n : ℕ) (rest : List ℕ) → n < 2 ^ 64 → drop at bytes ≡ spelling n ++ rest → number-at bytes at ≡ Ok (n, at + length (spelling n))
+unfolding number-at
+read-there bytes at n rest h e = ap (λ bs. told at (hear 9 bs)) e ∙ ap (told at) (reads-back n rest h)
+
+pub was-there : (bytes : List ℕ) (at n next : ℕ) → Bytes bytes → number-at bytes at ≡ Ok (n, next)
+    → (n < 2 ^ 64) × (drop at bytes ≡ spelling n ++ drop next bytes) × (next ≡ at + length (spelling n))
+was-there bytes at n next ok e = go (reads bytes at ok (Ok (n, next)) (sym e))
+  where
+    go : Reads bytes at (Ok (n, next)) → (n < 2 ^ 64) × (drop at bytes ≡ spelling n ++ drop next bytes) × (next ≡ at + length (spelling n))
+    go (s, rest, spells, parts, behind) =
+        let w = written-alone s n spells in
+        let place = behind ∙ ap (λ x. at + length x) w in
+        let left : rest ≡ drop next bytes = sym (drop-at s rest (length s) refl) ∙ ap (drop (length s)) (sym parts) ∙ drop-drop (length s) at bytes ∙ ap (λ k. drop k bytes) (sym behind) in
+        (spells .bounded, parts ∙ ap (λ x. x ++ rest) w ∙ ap (λ x. spelling n ++ x) left, place)

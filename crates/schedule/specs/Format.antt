@@ -76,6 +76,7 @@ pub record Tellable-job (job : Job) : Type 0 where
   pub counters-within : Within Counters (job .sizes .counters)
   pub signature-within : job .signature < 2 ^ 32
   pub table-long : length (job .table) ≡ 160
+  pub places : length (job .text .words) ≡ 256
   pub some-words : 1 ≤ job .text .count
   pub words-fit : job .text .count ≤ 256
   pub text-padded : job .text .words ≡ padded (words-of (job .text))

@@ -13,6 +13,8 @@ use calls::RawOperation;
 use faults::Fault;
 use faults::Refusal;
 use numbers::number_at;
+use std::alloc::AllocError;
+use std::alloc::Global;
 
 /// A call of a schedule with the offset of its letter.
 #[derive(Clone, Copy, PartialEq, Eq, Debug)]
@@ -77,4 +79,32 @@ pub fn call_at(bytes: &[u8], first: usize) -> Result<(Call, usize), Fault>
         }
         _ => Err(Fault::at(Refusal::UnknownLetter, first)),
     }
+}
+
+/// The calls of a schedule, each with its offset, as far as they can be read, and the fault that ended the reading, if one did.
+#[derive(Drop)]
+pub struct CallsRead {
+    pub calls: Vec<CallAt>,
+    pub fault: Option<Fault>,
+}
+
+/// Reads calls from an offset to the end.
+pub fn read_calls(heap: Global, bytes: &[u8], first: usize) -> Result<CallsRead, AllocError>
+    ensures defined { λ r. ⌜ made r (λ read. record { calls = vec-items (read .calls); fault = read .fault } ≡ calls-from (length (now (bytes .entry))) (now (bytes .entry)) first) ⌝ }
+{
+    let mut calls = Vec::new(heap);
+    let mut at = first;
+    while at < bytes.len() {
+        match call_at(bytes, at) {
+            Ok((call, next)) => {
+                calls.push(CallAt { at, call })?;
+                at = next;
+            }
+            Err(fault) => {
+                let fault = Some(fault);
+                return Ok(CallsRead { calls, fault });
+            }
+        }
+    }
+    Ok(CallsRead { calls, fault: None })
 }
