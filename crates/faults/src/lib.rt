@@ -1,4 +1,5 @@
 //! Refusals: why something was refused, and where.
+ghost use Rattle.faults.specs.declared.Refusal.{Refusal};
 ghost use Rattle.faults.specs.Numbering.{Apart, boot-fault, fault-at, layer-of, number-of};
 ghost use mathlib.Core.Path.{_≡_};
 
@@ -34,7 +35,7 @@ pub enum Refusal {
 }
 
 /// The part of the stepping machine that refused.
-#[derive(Clone, Copy, PartialEq, Eq, Debug)]
+#[derive(Clone, Copy)]
 pub enum Layer {
     Descriptor,
     Schedule,
@@ -62,7 +63,6 @@ impl Refusal {
     /// The number under which the refusal is known.
     pub fn number(self) -> u8
         ensures numbered { λ r. ⌜ r ≡ number-of self ⌝ }
-        ensures apart { λ _. ⌜ Apart self ⌝ }
     {
         self as u8
     }
@@ -106,3 +106,8 @@ impl Fault {
         }
     }
 }
+
+/// The law of the numbers: no two refusals share one.
+pub fn numbering_law()
+    ensures no_two_refusals_share_a_number { λ _. ⌜ ((refusal : Refusal) → Apart refusal) ⌝ }
+{}

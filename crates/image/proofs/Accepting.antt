@@ -16,9 +16,9 @@ use Rattle.faults.specs.declared.Fault.{Fault}
 use Rattle.image.specs.declared.fields.Sizes.{Sizes}
 use Rattle.image.specs.declared.layout.Descriptor.{Descriptor}
 use Rattle.image.specs.declared.layout.Section.{Section}
-use Rattle.image.specs.declared.words.Kind.{Kind}
-use Rattle.image.specs.declared.words.Kind.the-variants.{Add, Push, Pop, Put, Take}
-use Rattle.image.specs.Words.{kinds}
+use Rattle.words.specs.declared.Kind.{Kind}
+use Rattle.words.specs.declared.Kind.the-variants.{Add, Push, Pop, Put, Take}
+use Rattle.words.specs.Words.{kinds}
 use Rattle.image.specs.Layout.{Inside, inside, word-at, descriptor-of}
 use Rattle.image.specs.Checks.{Check, first-failing, between, is-word, has-routine, size-checks, table-check, text-check, descriptor-checks, all-descriptor-checks, image-checks, sections-of, checked-image}
 use Rattle.image.specs.Accepted.{Well-described, Acceptable, Accepted-exactly, First-of, First-that-fails}

@@ -11,11 +11,11 @@ use Rattle.std.specs.declared.result.Result.{Result}
 use Rattle.std.specs.declared.result.Result.the-variants.{Ok, Err}
 use Rattle.faults.specs.declared.Fault.{Fault}
 use Rattle.image.specs.declared.layout.Section.{Section}
-use Rattle.image.specs.declared.words.Kind.{Kind}
-use Rattle.image.specs.declared.words.Kind.the-variants.{Add}
+use Rattle.words.specs.declared.Kind.{Kind}
+use Rattle.words.specs.declared.Kind.the-variants.{Add}
 use Rattle.image.specs.Layout.{descriptor-of}
 use Rattle.image.specs.declared.fields.Sizes.{Sizes}
-use Rattle.image.specs.Words.{kinds}
+use Rattle.words.specs.Words.{kinds}
 use Rattle.image.specs.Checks.{Check, first-failing, all-pass, size-checks, table-check, text-check, descriptor-checks, all-descriptor-checks, sections-of, checked-image}
 
 pub ok-no-err : {X Y P : Type 0} {x : X} {y : Y} → _≡_ {A = Result X Y} (Ok x) (Err y) → P

@@ -15,11 +15,11 @@ use Rattle.std.specs.declared.result.Result.the-variants.{Ok, Err}
 use Rattle.faults.specs.declared.Fault.{Fault}
 use Rattle.image.specs.declared.fields.Sizes.{Sizes}
 use Rattle.image.specs.declared.layout.Section.{Section}
-use Rattle.image.specs.declared.words.Kind.{Kind}
-use Rattle.image.specs.declared.words.Kind.the-variants.{Add, Push, Pop, Put, Take}
-use Rattle.image.specs.declared.words.Word.{Word}
-use Rattle.image.specs.declared.words.Word.the-variants.{Enter, Restart}
-use Rattle.image.specs.Words.{code, section-words}
+use Rattle.words.specs.declared.Kind.{Kind}
+use Rattle.words.specs.declared.Kind.the-variants.{Add, Push, Pop, Put, Take}
+use Rattle.words.specs.declared.Word.{Word}
+use Rattle.words.specs.declared.Word.the-variants.{Enter, Restart}
+use Rattle.words.specs.Words.{code, section-words}
 use Rattle.image.specs.Layout.{Lies-at, Inside, section-of, descriptor-of}
 use Rattle.image.specs.Checks.{checked-image}
 use Rattle.image.specs.Accepted.{Routine, Acceptable, Accepted-exactly, Laid-out, Laid-out-if-accepted}

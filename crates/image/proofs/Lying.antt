@@ -13,10 +13,10 @@ use Rattle.std.specs.Orderings.{Decides}
 use Rattle.std.specs.declared.option.Option.{Option}
 use Rattle.std.specs.declared.option.Option.the-variants.{None, Some}
 use Rattle.image.specs.declared.layout.Section.{Section}
-use Rattle.image.specs.declared.words.Kind.{Kind}
-use Rattle.image.specs.declared.words.Word.{Word}
-use Rattle.image.specs.declared.words.Word.the-variants.{Enter, Restart}
-use Rattle.image.specs.Words.{code, section-words}
+use Rattle.words.specs.declared.Kind.{Kind}
+use Rattle.words.specs.declared.Word.{Word}
+use Rattle.words.specs.declared.Word.the-variants.{Enter, Restart}
+use Rattle.words.specs.Words.{code, section-words}
 use Rattle.image.specs.Layout.{Lies-at, word-at, Inside, inside}
 use Rattle.image.specs.Checks.{is-word, has-words, has-routine}
 use Rattle.image.specs.Accepted.{Routine}

@@ -5,9 +5,9 @@ use mathlib.Core.Path.{_≡_, refl, sym, _∙_, ap}
 use Prim.Native.Nat.{ℕ, _+_, _<_, _≤_}
 use lib.ListN.{length, drop, getD}
 use Rattle.std.proofs.shelf.Lists.{drop-more, drop-all}
-use Rattle.image.specs.declared.words.Word.{Word}
-use Rattle.image.specs.declared.words.Word.the-variants.{Enter}
-use Rattle.image.specs.Words.{code}
+use Rattle.words.specs.declared.Word.{Word}
+use Rattle.words.specs.declared.Word.the-variants.{Enter}
+use Rattle.words.specs.Words.{code}
 use Rattle.image.specs.Layout.{word-at}
 use Rattle.image.specs.Checks.{is-word, has-words}
 

@@ -11,9 +11,9 @@ use Rattle.faults.specs.declared.Fault.{Fault}
 use Rattle.image.specs.declared.fields.Sizes.{Sizes}
 use Rattle.image.specs.declared.layout.Descriptor.{Descriptor}
 use Rattle.image.specs.declared.layout.Section.{Section}
-use Rattle.image.specs.declared.words.Kind.{Kind}
-use Rattle.image.specs.declared.words.Word.the-variants.{Enter, Restart}
-use Rattle.image.specs.Words.{code, section-words}
+use Rattle.words.specs.declared.Kind.{Kind}
+use Rattle.words.specs.declared.Word.the-variants.{Enter, Restart}
+use Rattle.words.specs.Words.{code, section-words}
 use Rattle.image.specs.Layout.{Lies-at, Inside, section-of, descriptor-of}
 use Rattle.image.specs.Checks.{Check, sections-of}
 

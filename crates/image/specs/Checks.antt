@@ -16,10 +16,10 @@ use Rattle.image.specs.declared.fields.Field.the-variants.{Exclusion, Grace, C
 use Rattle.image.specs.declared.fields.Sizes.{Sizes}
 use Rattle.image.specs.declared.layout.Descriptor.{Descriptor}
 use Rattle.image.specs.declared.layout.Section.{Section}
-use Rattle.image.specs.declared.words.Kind.{Kind}
-use Rattle.image.specs.declared.words.Word.{Word}
-use Rattle.image.specs.declared.words.Word.the-variants.{Enter, Restart}
-use Rattle.image.specs.Words.{code, kinds, section-words}
+use Rattle.words.specs.declared.Kind.{Kind}
+use Rattle.words.specs.declared.Word.{Word}
+use Rattle.words.specs.declared.Word.the-variants.{Enter, Restart}
+use Rattle.words.specs.Words.{code, kinds, section-words}
 use Rattle.image.specs.Layout.{word-at, inside, record-offset, section-of, descriptor-of}
 
 -- One check: whether it passes, and the fault where it does not.

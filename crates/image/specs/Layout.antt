@@ -9,8 +9,8 @@ use Rattle.std.specs.declared.option.Option.{Option}
 use Rattle.std.specs.declared.option.Option.the-variants.{None, Some}
 use Rattle.image.specs.declared.layout.Descriptor.{Descriptor}
 use Rattle.image.specs.declared.layout.Section.{Section}
-use Rattle.image.specs.declared.words.Kind.{Kind}
-use Rattle.image.specs.Words.{kind-number}
+use Rattle.words.specs.declared.Kind.{Kind}
+use Rattle.words.specs.Words.{kind-number}
 
 -- Word i of a text lies at address 4096 + 4i.
 abbrev pub address-of : ℕ → ℕ
@@ -45,16 +45,14 @@ eight-bytes table at = four-bytes table at + four-bytes table (at + 4) * 4294967
 abbrev pub record-offset : Kind → ℕ
 record-offset kind = 32 * (kind-number kind - 1)
 
+abbrev pub section-fields : List ℕ → ℕ → Section
+section-fields table at = record { start = eight-bytes table (at + 8); length = eight-bytes table (at + 16); abort = eight-bytes table (at + 24) }
+
 unfoldable pub section-of : List ℕ → Kind → Section
-section-of table kind = record {
-  start = eight-bytes table (record-offset kind + 8);
-  length = eight-bytes table (record-offset kind + 16);
-  abort = eight-bytes table (record-offset kind + 24);
-}
+section-of table kind = section-fields table (record-offset kind)
+
+abbrev pub descriptor-fields : List ℕ → ℕ → Section → Descriptor
+descriptor-fields table at section = record { version = four-bytes table at; flags = four-bytes table (at + 4); section = section }
 
 unfoldable pub descriptor-of : List ℕ → Kind → Descriptor
-descriptor-of table kind = record {
-  version = four-bytes table (record-offset kind);
-  flags = four-bytes table (record-offset kind + 4);
-  section = section-of table kind;
-}
+descriptor-of table kind = descriptor-fields table (record-offset kind) (section-of table kind)

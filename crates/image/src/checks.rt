@@ -3,7 +3,7 @@ ghost use Prim.Native.Nat.{_+_, _<_, _≤_, _*_, _^_, ℕ};
 ghost use Rattle.image.specs.Checks.{all-descriptor-checks, all-pass, checked-image, descriptor-checks, first-failing, has-routine, has-words, image-checks, is-word, sections-of, size-checks, table-check, text-check};
 ghost use Rattle.image.specs.Accepted.{Accepted-exactly, First-that-fails, Laid-out-if-accepted};
 ghost use Rattle.image.specs.Layout.{descriptor-of, section-of, word-at};
-ghost use Rattle.image.specs.Words.{code, kinds, section-words};
+ghost use Rattle.words.specs.Words.{code, kinds, section-words};
 ghost use Rattle.std.specs.Results.{Cases};
 ghost use lib.ListN.{length};
 ghost use mathlib.Core.List.{[], _∷_};
@@ -12,11 +12,12 @@ use super::fields::Field;
 use super::fields::Sizes;
 use super::layout::Descriptor;
 use super::layout::Section;
+use super::layout::record_offset;
 use super::layout::word_at;
-use super::words::Kind;
-use super::words::Word;
 use faults::Fault;
 use faults::Refusal;
+use words::Kind;
+use words::Word;
 
 /// Addresses of a section are below this.
 const ADDRESS_LIMIT: u64 = 4294967296;
@@ -71,12 +72,12 @@ fn has_routine(text: &[u32], kind: Kind, section: Section) -> bool
 }
 
 /// Checks one descriptor: the first of its faults, if it has one.
-pub fn check_descriptor(table: &[u8], kind: Kind, text: &[u32], signature: u32) -> Result<(), Fault>
+fn check_descriptor(table: &[u8], kind: Kind, text: &[u32], signature: u32) -> Result<(), Fault>
     ensures defined { λ r. ⌜ r ≡ all-pass (descriptor-checks (now (text .entry)) signature kind (descriptor-of (now (table .entry)) kind)) ⌝ }
 {
     let descriptor = Descriptor::of(table, kind);
     let section = descriptor.section;
-    let at = kind.record_offset();
+    let at = record_offset(kind);
     if descriptor.version != 0 {
         return Err(Fault::at(Refusal::Version, at));
     }
@@ -142,7 +143,7 @@ fn check_descriptors(
 }
 
 /// The sections that a table tells, that of descriptor 1 first.
-pub fn sections(table: &[u8]) -> [Section; 5]
+fn sections(table: &[u8]) -> [Section; 5]
     ensures defined { λ r. ⌜ r ≡ sections-of (now (table .entry)) ⌝ }
 {
     [

@@ -8,7 +8,7 @@ use faults::Fault;
 use faults::Refusal;
 
 /// The sizes of a job: its CPUs, its threads, its nodes, the packets that a ring holds and the counters on a CPU.
-#[derive(Clone, Copy, PartialEq, Eq, Debug)]
+#[derive(Clone, Copy)]
 pub struct Sizes {
     pub cpus: u64,
     pub threads: u64,
@@ -18,7 +18,7 @@ pub struct Sizes {
 }
 
 /// A number of a job. Its own number is the place by which a refusal names it.
-#[derive(Clone, Copy, PartialEq, Eq, Debug)]
+#[derive(Clone, Copy)]
 pub enum Field {
     Exclusion = 1,
     Grace = 2,
@@ -33,14 +33,14 @@ pub enum Field {
 
 impl Field {
     /// The place by which a refusal names the field.
-    pub fn place(self) -> usize
+    fn place(self) -> usize
         ensures placed { λ r. ⌜ r ≡ field-place self ⌝ }
     {
         self as usize
     }
 
     /// The least and the largest number that the field may have.
-    pub fn limits(self) -> (u64, u64)
+    fn limits(self) -> (u64, u64)
         ensures limited { λ r. ⌜ r ≡ (least self, largest self) ⌝ }
     {
         match self {

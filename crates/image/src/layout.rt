@@ -1,11 +1,11 @@
 //! Where words and records lie.
 ghost use Prim.Native.Nat.{_+_, _<_, _≤_, ℕ};
-ghost use Rattle.image.specs.Layout.{Inside, Lies-at, descriptor-of, eight-bytes, four-bytes, inside, record-offset, section-of, word-at};
+ghost use Rattle.image.specs.Layout.{Inside, Lies-at, descriptor-fields, descriptor-of, eight-bytes, four-bytes, inside, record-offset, section-fields, section-of, word-at};
 ghost use Rattle.std.specs.Options.{Cases};
 ghost use Rattle.std.specs.Orderings.{Decides};
 ghost use lib.ListN.{getD};
 ghost use mathlib.Core.Path.{_≡_};
-use super::words::Kind;
+use words::Kind;
 
 /// A restartable section: the address of its first word, its length in bytes, and the address to which a thread that is
 /// disturbed inside may be sent.
@@ -17,7 +17,7 @@ pub struct Section {
 }
 
 /// A record of the descriptor table.
-#[derive(Clone, Copy, PartialEq, Eq, Debug)]
+#[derive(Clone, Copy)]
 pub struct Descriptor {
     pub version: u32,
     pub flags: u32,
@@ -69,12 +69,7 @@ impl Section {
     pub fn of(table: &[u8], kind: Kind) -> Section
         ensures defined { λ r. ⌜ r ≡ section-of (now (table .entry)) kind ⌝ }
     {
-        let at = kind.record_offset();
-        Section {
-            start: eight_bytes(table, at + 8),
-            length: eight_bytes(table, at + 16),
-            abort: eight_bytes(table, at + 24),
-        }
+        section_at(table, record_offset(kind))
     }
 }
 
@@ -83,22 +78,39 @@ impl Descriptor {
     pub fn of(table: &[u8], kind: Kind) -> Descriptor
         ensures defined { λ r. ⌜ r ≡ descriptor-of (now (table .entry)) kind ⌝ }
     {
-        let at = kind.record_offset();
-        Descriptor {
-            version: four_bytes(table, at),
-            flags: four_bytes(table, at + 4),
-            section: Section::of(table, kind),
-        }
+        descriptor_at(table, record_offset(kind), Section::of(table, kind))
     }
 }
 
-impl Kind {
-    /// The offset of the operation's descriptor in the table.
-    pub fn record_offset(self) -> usize
-        ensures defined { λ r. ⌜ r ≡ record-offset self ⌝ }
-    {
-        32 * (self.number() - 1)
+/// The section that the record at an offset tells.
+fn section_at(table: &[u8], at: usize) -> Section
+    requires { ⌜ at < 800 ⌝ }
+    ensures defined { λ r. ⌜ r ≡ section-fields (now (table .entry)) at ⌝ }
+{
+    Section {
+        start: eight_bytes(table, at + 8),
+        length: eight_bytes(table, at + 16),
+        abort: eight_bytes(table, at + 24),
     }
+}
+
+/// The record at an offset, with the section that it tells.
+fn descriptor_at(table: &[u8], at: usize, section: Section) -> Descriptor
+    requires { ⌜ at < 800 ⌝ }
+    ensures defined { λ r. ⌜ r ≡ descriptor-fields (now (table .entry)) at section ⌝ }
+{
+    Descriptor {
+        version: four_bytes(table, at),
+        flags: four_bytes(table, at + 4),
+        section,
+    }
+}
+
+/// The offset of an operation's descriptor in the table.
+pub(crate) fn record_offset(kind: Kind) -> usize
+    ensures defined { λ r. ⌜ r ≡ record-offset kind ⌝ }
+{
+    32 * (kind.number() - 1)
 }
 
 fn byte_at(table: &[u8], at: usize) -> u8

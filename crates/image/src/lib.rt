@@ -2,4 +2,3 @@
 pub mod checks;
 pub mod fields;
 pub mod layout;
-pub mod words;

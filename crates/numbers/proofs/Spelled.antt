@@ -8,10 +8,9 @@ use native.Mathlib.Nat.{pow-succ'}
 use native.Mathlib.Omega.{arith}
 use borrow.Author.Tests.{lt-ltb, le-ltb, ltb-true, ltb-false}
 use lib.Dec.{ltb}
-use lib.ListN.{length, take, drop, getD, length-append, length-drop}
+use lib.ListN.{length, take, drop}
 use Rattle.std.proofs.shelf.Bits.{div-below}
 use Rattle.std.proofs.shelf.Lists.{take-append-drop, drop-at, drop-drop}
-use Rattle.std.specs.Results.{Cases}
 use Rattle.std.specs.declared.result.Result.{Result}
 use Rattle.std.specs.declared.result.Result.the-variants.{Ok, Err}
 use Rattle.faults.specs.declared.Fault.{Fault}
@@ -98,11 +97,6 @@ unfolding number-at
 reads-back-at before n rest h =
     ap (λ bs. told (length before) (hear 9 bs)) (drop-at before (spelling n ++ rest) (length before) refl) ∙ ap (told (length before)) (reads-back n rest h)
 
--- Bytes as the language has them.
-pub bytes-from : (xs : List ℕ) → ((i : ℕ) → getD xs i 0 < 256) → Bytes xs
-bytes-from [] h = tt
-bytes-from (x ∷ xs) h = (h 0, bytes-from xs (λ i. h (suc i)))
-
 bytes-drop : (k : ℕ) (xs : List ℕ) → Bytes xs → Bytes (drop k xs)
 bytes-drop zero xs h = h
 bytes-drop (suc k) [] h = tt
@@ -146,22 +140,6 @@ told-reads bytes first ok wrong e =
 pub reads : (bytes : List ℕ) (first : ℕ) → Bytes bytes → (r : Result (ℕ × ℕ) Fault) → r ≡ number-at bytes first → Reads bytes first r
 unfolding number-at
 reads bytes first ok r e = rw e (told-reads bytes first (bytes-drop first bytes ok) (hear 9 (drop first bytes)) refl)
-
--- A spelling has at least one byte, so the reader goes on, and stays within the bytes.
-some-byte : (bytes : List ℕ) → Grouped bytes → 0 < length bytes
-some-byte [] g = absurd g
-some-byte (b ∷ bs) g = omega arith
-
-pub goes-on : (bytes : List ℕ) (first : ℕ) → Bytes bytes → (r : Result (ℕ × ℕ) Fault) → r ≡ number-at bytes first
-    → Cases r (λ p. (first < p .1) × (p .1 ≤ length bytes)) (λ _. Unit {0})
-goes-on bytes first ok r e = go r (reads bytes first ok r e)
-  where
-    go : (x : Result (ℕ × ℕ) Fault) → Reads bytes first x → Cases x (λ p. (first < p .1) × (p .1 ≤ length bytes)) (λ _. Unit {0})
-    go (Ok p) (s, rest, spells, parts, behind) =
-        let some = some-byte s (spells .grouped) in
-        let long = simp (length-drop, length-append) at (ap length parts) in
-        (omega arith, omega arith)
-    go (Err f) _ = tt
 
 -- A number whose written spelling stands at an offset is read there; and a number that is read stood there as it is written.
 pub read-there : (bytes : List ℕ) (at n : ℕ) (rest : List ℕ) → n < 2 ^ 64 → drop at bytes ≡ spelling n ++ rest → number-at bytes at ≡ Ok (n, at + length (spelling n))

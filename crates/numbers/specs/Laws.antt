@@ -4,8 +4,12 @@ use mathlib.Core.Path.{_≡_}
 use Prim.Native.Nat.{ℕ, _+_, _^_, _<_}
 use lib.ListN.{length}
 use Rattle.std.specs.declared.result.Result.the-variants.{Ok, Err}
-use Rattle.numbers.specs.Spelling.{Spells, spelling}
-use Rattle.numbers.specs.Reading.{number-at}
+use Rattle.numbers.specs.Spelling.{Bytes, Spells, spelling}
+use Rattle.numbers.specs.Reading.{Reads, number-at}
+
+-- For any bytes and any offset, what the reader answers is what is spelled there: a number, the front of one, or neither.
+abbrev pub Reader-answers-what-is-spelled : Type 0
+Reader-answers-what-is-spelled = (bytes : List ℕ) (first : ℕ) → Bytes bytes → Reads bytes first (number-at bytes first)
 
 -- What is written of a number below 2^64 spells it.
 abbrev pub Written-spells : Type 0

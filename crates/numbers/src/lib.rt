@@ -1,8 +1,8 @@
 //! Seven-bit numbers: groups of seven bits, the lowest first, the top bit set on all bytes but the last. A number is below
 //! 2^64 and has one spelling, the shortest.
 ghost use Prim.Native.Nat.{_+_, _<_, _≤_, ℕ};
-ghost use Rattle.numbers.specs.Laws.{One-number, One-spelling, Reads-back, Written-alone, Written-spells};
-ghost use Rattle.numbers.specs.Reading.{Reads, Written, number-at};
+ghost use Rattle.numbers.specs.Laws.{One-number, One-spelling, Reader-answers-what-is-spelled, Reads-back, Written-alone, Written-spells};
+ghost use Rattle.numbers.specs.Reading.{Written, number-at};
 ghost use Rattle.numbers.specs.Spelling.{spelling};
 ghost use Rattle.std.specs.Results.{Cases};
 ghost use lib.ListN.{length};
@@ -14,7 +14,6 @@ use faults::Refusal;
 /// is not spelled as it should be are refused at `first`.
 pub fn number_at(bytes: &[u8], first: usize) -> Result<(u64, usize), Fault>
     ensures defined { λ r. ⌜ r ≡ number-at (now (bytes .entry)) first ⌝ }
-    ensures reads_the_spelling { λ r. ⌜ Reads (now (bytes .entry)) first r ⌝ }
     ensures goes_on { λ r. ⌜ Cases r (λ p. (first < p .1) × (p .1 ≤ length (now (bytes .entry)))) (λ _. Unit {0}) ⌝ }
 {
     scan(bytes, first)
@@ -23,6 +22,7 @@ pub fn number_at(bytes: &[u8], first: usize) -> Result<(u64, usize), Fault>
 /// Goes through the bytes of a number, one group after the other.
 fn scan(bytes: &[u8], first: usize) -> Result<(u64, usize), Fault>
     ensures defined { λ r. ⌜ r ≡ number-at (now (bytes .entry)) first ⌝ }
+    ensures goes_on { λ r. ⌜ Cases r (λ p. (first < p .1) × (p .1 ≤ length (now (bytes .entry)))) (λ _. Unit {0}) ⌝ }
 {
     let mut value = 0;
     let mut shift: u32 = 0;
@@ -77,14 +77,13 @@ pub fn write_number(out: &mut [u8], n: u64) -> Result<usize, Fault>
     Ok(at + 1)
 }
 
-/// The laws of the spelling. What is written spells its number and is read back from wherever it stands; a number has one
+/// The laws of the spelling. What a reader answers is what is spelled there. What is written spells its number and is read back from wherever it stands; a number has one
 /// spelling and a spelling one number.
-pub fn spelling_laws() -> bool
+pub fn spelling_laws()
+    ensures the_reader_answers_what_is_spelled { λ _. ⌜ Reader-answers-what-is-spelled ⌝ }
     ensures what_is_written_spells_the_number { λ _. ⌜ Written-spells ⌝ }
     ensures what_is_written_is_read_back { λ _. ⌜ Reads-back ⌝ }
     ensures every_spelling_is_the_written_one { λ _. ⌜ Written-alone ⌝ }
     ensures two_spellings_of_a_number_are_equal { λ _. ⌜ One-spelling ⌝ }
     ensures a_spelling_stands_for_one_number { λ _. ⌜ One-number ⌝ }
-{
-    true
-}
+{}

@@ -43,7 +43,7 @@ refused-by-boot at (Ok x) = Ok x
 refused-by-boot at (Err fault) = Err (boot-fault at fault)
 
 -- A number of the job: read whole, then held against its limits.
-unfoldable pub field-at : List ℕ → ℕ → Field → Read ℕ
+abbrev pub field-at : List ℕ → ℕ → Field → Read ℕ
 field-at bytes at field = and-then (number-at bytes at) (λ n next. refused-by-boot at (first-failing (n, next) (field-check field n ∷ [])))
 
 abbrev pub sizes-at : List ℕ → ℕ → Read Sizes
@@ -57,7 +57,7 @@ abbrev pub table-at : List ℕ → ℕ → Read (List ℕ)
 table-at bytes at = cond (ltb (length bytes) (at + 160)) (Err (fault-at EndsInside (length bytes))) (Ok (take 160 (drop at bytes), at + 160))
 
 -- The number of words, and so many words.
-unfoldable pub word-count-at : List ℕ → ℕ → Read ℕ
+abbrev pub word-count-at : List ℕ → ℕ → Read ℕ
 word-count-at bytes at = and-then (number-at bytes at) (λ n next. refused-by-boot at (first-failing (n, next) (text-check n ∷ [])))
 
 unfoldable pub words-at : ℕ → List ℕ → ℕ → Read (List ℕ)

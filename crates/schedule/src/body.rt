@@ -5,6 +5,7 @@ ghost use Rattle.std.specs.Of.Vec.{vec-items};
 ghost use Rattle.std.specs.Results.{Cases};
 ghost use Rattle.std.specs.Vec.{made};
 ghost use lib.ListN.{length};
+ghost use mathlib.Core.List.{[]};
 ghost use mathlib.Core.Path.{_≡_};
 use calls::Call;
 use calls::CallDebug;
@@ -92,7 +93,15 @@ pub struct CallsRead {
 pub fn read_calls(heap: Global, bytes: &[u8], first: usize) -> Result<CallsRead, AllocError>
     ensures defined { λ r. ⌜ made r (λ read. record { calls = vec-items (read .calls); fault = read .fault } ≡ calls-from (length (now (bytes .entry))) (now (bytes .entry)) first) ⌝ }
 {
-    let mut calls = Vec::new(heap);
+    collect_calls(Vec::new(heap), bytes, first)
+}
+
+/// Adds calls from an offset to the end to an empty vector.
+fn collect_calls(empty: Vec<CallAt>, bytes: &[u8], first: usize) -> Result<CallsRead, AllocError>
+    requires { ⌜ vec-items empty ≡ [] ⌝ }
+    ensures defined { λ r. ⌜ made r (λ read. record { calls = vec-items (read .calls); fault = read .fault } ≡ calls-from (length (now (bytes .entry))) (now (bytes .entry)) first) ⌝ }
+{
+    let mut calls = empty;
     let mut at = first;
     while at < bytes.len() {
         match call_at(bytes, at) {

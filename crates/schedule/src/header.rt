@@ -28,7 +28,7 @@ pub fn field_at(bytes: &[u8], at: usize, field: Field) -> Result<(u64, usize), F
 {
     let (n, next) = number_at(bytes, at)?;
     match field.accept(n) {
-        Ok(_) => Ok((n, next)),
+        Ok(accepted) => Ok((accepted, next)),
         Err(fault) => Err(Fault::by_boot(at, fault)),
     }
 }

@@ -3,7 +3,7 @@ use mathlib.Core.Path.{sym, _∙_, ap}
 use Prim.Native.Nat.{_+_}
 use native.Mathlib.Omega.{arith}
 use lib.ListN.{drop}
-use Rattle.image.specs.Words.{code}
+use Rattle.words.specs.Words.{code}
 use Rattle.image.specs.Layout.{word-at}
 use Rattle.image.specs.Checks.{is-word, has-words}
 use Rattle.image.proofs.Standing.{has-words-more, has-words-all}

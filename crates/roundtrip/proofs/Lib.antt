@@ -1,0 +1,3 @@
+pub mod Parsing
+pub mod Telling
+pub mod Told
