@@ -19,8 +19,8 @@ use Rattle.image.specs.declared.layout.Section.{Section}
 use Rattle.words.specs.declared.Kind.{Kind}
 use Rattle.words.specs.declared.Kind.the-variants.{Add, Push, Pop, Put, Take}
 use Rattle.words.specs.Words.{kinds}
-use Rattle.image.specs.Layout.{Inside, inside, word-at, descriptor-of}
-use Rattle.image.specs.Checks.{Check, first-failing, between, is-word, has-routine, size-checks, table-check, text-check, descriptor-checks, all-descriptor-checks, image-checks, sections-of, checked-image}
+use Rattle.image.specs.Layout.{Inside, inside, word-at, descriptor-of, sections-of}
+use Rattle.image.specs.Checks.{Check, first-failing, between, is-word, has-routine, size-checks, table-check, text-check, descriptor-checks, all-descriptor-checks, image-checks, checked-image}
 use Rattle.image.specs.Accepted.{Well-described, Acceptable, Accepted-exactly, First-of, First-that-fails}
 use Rattle.image.proofs.Checking.{ok-no-err, passed, passed-for}
 use Rattle.image.proofs.Lying.{lies, is-word-lying, routine-stands, standing-routine, is-inside, inside-is}

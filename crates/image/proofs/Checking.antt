@@ -13,10 +13,10 @@ use Rattle.faults.specs.declared.Fault.{Fault}
 use Rattle.image.specs.declared.layout.Section.{Section}
 use Rattle.words.specs.declared.Kind.{Kind}
 use Rattle.words.specs.declared.Kind.the-variants.{Add}
-use Rattle.image.specs.Layout.{descriptor-of}
+use Rattle.image.specs.Layout.{descriptor-of, sections-of}
 use Rattle.image.specs.declared.fields.Sizes.{Sizes}
 use Rattle.words.specs.Words.{kinds}
-use Rattle.image.specs.Checks.{Check, first-failing, all-pass, size-checks, table-check, text-check, descriptor-checks, all-descriptor-checks, sections-of, checked-image}
+use Rattle.image.specs.Checks.{Check, first-failing, all-pass, size-checks, table-check, text-check, descriptor-checks, all-descriptor-checks, checked-image}
 
 pub ok-no-err : {X Y P : Type 0} {x : X} {y : Y} → _≡_ {A = Result X Y} (Ok x) (Err y) → P
 ok-no-err e = let z : _≡_ {A = ℕ} 0 1 = cc in absurd (omega arith)

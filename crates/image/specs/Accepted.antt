@@ -14,8 +14,8 @@ use Rattle.image.specs.declared.layout.Section.{Section}
 use Rattle.words.specs.declared.Kind.{Kind}
 use Rattle.words.specs.declared.Word.the-variants.{Enter, Restart}
 use Rattle.words.specs.Words.{code, section-words}
-use Rattle.image.specs.Layout.{Lies-at, Inside, section-of, descriptor-of}
-use Rattle.image.specs.Checks.{Check, sections-of}
+use Rattle.image.specs.Layout.{Lies-at, Inside, section-of, descriptor-of, sections-of}
+use Rattle.image.specs.Checks.{Check}
 
 -- The routine of an operation stands in the text: the section is as long as its words, and each word lies where it should,
 -- word 1 at the entry, right before the section, and word 22 at the abort.

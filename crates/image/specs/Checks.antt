@@ -20,7 +20,7 @@ use Rattle.words.specs.declared.Kind.{Kind}
 use Rattle.words.specs.declared.Word.{Word}
 use Rattle.words.specs.declared.Word.the-variants.{Enter, Restart}
 use Rattle.words.specs.Words.{code, kinds, section-words}
-use Rattle.image.specs.Layout.{word-at, inside, record-offset, section-of, descriptor-of}
+use Rattle.image.specs.Layout.{word-at, inside, record-offset, descriptor-of, sections-of}
 
 -- One check: whether it passes, and the fault where it does not.
 pub record Check : Type 0 where
@@ -129,10 +129,6 @@ all-descriptor-checks table text signature (kind ∷ rest) =
 abbrev pub image-checks : Sizes → List ℕ → List ℕ → ℕ → List Check
 image-checks sizes table text signature =
     size-checks sizes ++ (table-check (length table) ∷ text-check (length text) ∷ all-descriptor-checks table text signature kinds)
-
--- The sections that a table tells, that of descriptor 1 first.
-abbrev pub sections-of : List ℕ → List Section
-sections-of table = map (section-of table) kinds
 
 -- What the checks of an image answer: the five sections, or the first fault.
 abbrev pub checked-image : Sizes → List ℕ → List ℕ → ℕ → Result (List Section) Fault

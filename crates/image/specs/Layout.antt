@@ -1,6 +1,6 @@
 -- Where words and records lie: the text's addresses, the descriptor table's records, and what a section holds.
 use mathlib.Core.Bool.{Bool, cond, _&&_}
-use mathlib.Core.List.{List, [], _∷_}
+use mathlib.Core.List.{List, [], _∷_, map}
 use mathlib.Core.Path.{_≡_}
 use Prim.Native.Nat.{ℕ, _+_, _-_, _*_, _/_, _%_, _<_, _≤_}
 use lib.Dec.{eqb, leb, ltb}
@@ -10,7 +10,7 @@ use Rattle.std.specs.declared.option.Option.the-variants.{None, Some}
 use Rattle.image.specs.declared.layout.Descriptor.{Descriptor}
 use Rattle.image.specs.declared.layout.Section.{Section}
 use Rattle.words.specs.declared.Kind.{Kind}
-use Rattle.words.specs.Words.{kind-number}
+use Rattle.words.specs.Words.{kind-number, kinds}
 
 -- Word i of a text lies at address 4096 + 4i.
 abbrev pub address-of : ℕ → ℕ
@@ -50,6 +50,10 @@ section-fields table at = record { start = eight-bytes table (at + 8); length = 
 
 unfoldable pub section-of : List ℕ → Kind → Section
 section-of table kind = section-fields table (record-offset kind)
+
+-- The sections that a table tells, that of descriptor 1 first.
+abbrev pub sections-of : List ℕ → List Section
+sections-of table = map (section-of table) kinds
 
 abbrev pub descriptor-fields : List ℕ → ℕ → Section → Descriptor
 descriptor-fields table at section = record { version = four-bytes table at; flags = four-bytes table (at + 4); section = section }

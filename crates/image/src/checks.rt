@@ -1,8 +1,8 @@
 //! The checks of an image.
 ghost use Prim.Native.Nat.{_+_, _<_, _≤_, _*_, _^_, ℕ};
-ghost use Rattle.image.specs.Checks.{all-descriptor-checks, all-pass, checked-image, descriptor-checks, first-failing, has-routine, has-words, image-checks, is-word, sections-of, size-checks, table-check, text-check};
+ghost use Rattle.image.specs.Checks.{all-descriptor-checks, all-pass, checked-image, descriptor-checks, first-failing, has-routine, has-words, image-checks, is-word, size-checks, table-check, text-check};
 ghost use Rattle.image.specs.Accepted.{Accepted-exactly, First-that-fails, Laid-out-if-accepted};
-ghost use Rattle.image.specs.Layout.{descriptor-of, section-of, word-at};
+ghost use Rattle.image.specs.Layout.{descriptor-of, section-of, word-at, sections-of};
 ghost use Rattle.words.specs.Words.{code, kinds, section-words};
 ghost use Rattle.std.specs.Results.{Cases};
 ghost use lib.ListN.{length};
@@ -13,6 +13,7 @@ use super::fields::Sizes;
 use super::layout::Descriptor;
 use super::layout::Section;
 use super::layout::record_offset;
+use super::layout::sections;
 use super::layout::word_at;
 use faults::Fault;
 use faults::Refusal;
@@ -140,19 +141,6 @@ fn check_descriptors(
         check_descriptor(table, *kind, text, signature)?;
     }
     Ok(())
-}
-
-/// The sections that a table tells, that of descriptor 1 first.
-fn sections(table: &[u8]) -> [Section; 5]
-    ensures defined { λ r. ⌜ r ≡ sections-of (now (table .entry)) ⌝ }
-{
-    [
-        Section::of(table, Kind::Add),
-        Section::of(table, Kind::Push),
-        Section::of(table, Kind::Pop),
-        Section::of(table, Kind::Put),
-        Section::of(table, Kind::Take),
-    ]
 }
 
 /// Tries all checks of an image in their order.

@@ -1,6 +1,6 @@
 //! Where words and records lie.
 ghost use Prim.Native.Nat.{_+_, _<_, _≤_, ℕ};
-ghost use Rattle.image.specs.Layout.{Inside, Lies-at, descriptor-fields, descriptor-of, eight-bytes, four-bytes, inside, record-offset, section-fields, section-of, word-at};
+ghost use Rattle.image.specs.Layout.{Inside, Lies-at, descriptor-fields, descriptor-of, eight-bytes, four-bytes, inside, record-offset, section-fields, section-of, sections-of, word-at};
 ghost use Rattle.std.specs.Options.{Cases};
 ghost use Rattle.std.specs.Orderings.{Decides};
 ghost use lib.ListN.{getD};
@@ -71,6 +71,20 @@ impl Section {
     {
         section_at(table, record_offset(kind))
     }
+}
+
+/// The sections that a table of any length tells, that of descriptor 1 first. Its first 160 bytes count, and missing ones
+/// as 0.
+pub fn sections(table: &[u8]) -> [Section; 5]
+    ensures defined { λ r. ⌜ r ≡ sections-of (now (table .entry)) ⌝ }
+{
+    [
+        Section::of(table, Kind::Add),
+        Section::of(table, Kind::Push),
+        Section::of(table, Kind::Pop),
+        Section::of(table, Kind::Put),
+        Section::of(table, Kind::Take),
+    ]
 }
 
 impl Descriptor {

@@ -4,6 +4,22 @@ use calls::Call;
 use calls::CallDebug;
 use calls::CallPartialEq;
 use calls::RawOperation;
+use exclusion::abort::AbortRestart;
+use exclusion::abort::AbortRestartExclusion;
+use exclusion::grace::Grace;
+use exclusion::grace::GraceExclusion;
+use exclusion::masking::Masking;
+use exclusion::masking::MaskingExclusion;
+use exclusion::meaning::Exclusion;
+use exclusion::meaning::Notice;
+use exclusion::meaning::Verdict;
+use exclusion::meaning::VerdictDebug;
+use exclusion::meaning::VerdictPartialEq;
+use exclusion::rollback::AddressRollback;
+use exclusion::rollback::AddressRollbackExclusion;
+use exclusion_laws::ask;
+use exclusion_laws::ask_both_classic;
+use exclusion_laws::ask_masking;
 use faults::Fault;
 use faults::FaultDebug;
 use faults::FaultPartialEq;
@@ -353,4 +369,98 @@ fn letters_of_calls() -> Result<(), Fail> {
         Err(Fault::at(Refusal::WrongSpelling, 2)),
     )?;
     check_eq(call_at(b"a\x01", 0), Err(Fault::at(Refusal::EndsInside, 2)))
+}
+
+/// What an exclusion says with descriptor 1 armed on CPU 0.
+fn said<E: Exclusion>(exclusion: &E, place: u64, verdict: Verdict) -> Result<(), Fail> {
+    check_eq(ask(exclusion, 0, 1, place), verdict)
+}
+
+#[test]
+fn the_classic_ways_at_the_sections_edges() -> Result<(), Fail> {
+    let abort = AbortRestart::new(&TABLE);
+    said(&abort, 4096, Verdict::Outside)?;
+    said(&abort, 4100, Verdict::Back(4120))?;
+    said(&abort, 4112, Verdict::Back(4120))?;
+    said(&abort, 4116, Verdict::Outside)?;
+    let rollback = AddressRollback::new(&TABLE);
+    said(&rollback, 4096, Verdict::Outside)?;
+    said(&rollback, 4100, Verdict::Back(4100))?;
+    said(&rollback, 4112, Verdict::Back(4100))?;
+    said(&rollback, 4116, Verdict::Outside)?;
+    said(&rollback, 4252, Verdict::Back(4232))?;
+    check_eq(rollback.section(5).start, 4232)?;
+    check_eq(rollback.section(0).start, 0)?;
+    check_eq(rollback.section(6).abort, 0)
+}
+
+#[test]
+fn masking_waits_for_three_instructions_of_add() -> Result<(), Fail> {
+    let mut masking = Masking::new(&TABLE);
+    said(&masking, 4104, Verdict::Back(4100))?;
+    masking.entered(0, 1);
+    said(&masking, 4104, Verdict::Held)?;
+    check_eq(ask(&masking, 1, 1, 4104), Verdict::Back(4100))?;
+    masking.stepped(0);
+    masking.stepped(0);
+    said(&masking, 4112, Verdict::Held)?;
+    masking.stepped(0);
+    said(&masking, 4112, Verdict::Back(4100))?;
+    masking.stepped(0);
+    said(&masking, 4112, Verdict::Back(4100))?;
+    masking.entered(0, 3);
+    said(&masking, 4112, Verdict::Held)?;
+    masking.left(0);
+    said(&masking, 4112, Verdict::Back(4100))?;
+    masking.entered(8, 3);
+    check_eq(ask(&masking, 8, 1, 4112), Verdict::Back(4100))
+}
+
+#[test]
+fn grace_one_over_abort_holds_for_one_instruction() -> Result<(), Fail> {
+    let mut grace = Grace::new(1, AbortRestart::new(&TABLE));
+    grace.entered(0, 1);
+    said(&grace, 4104, Verdict::Held)?;
+    said(&grace, 4116, Verdict::Outside)?;
+    grace.stepped(0);
+    said(&grace, 4108, Verdict::Back(4120))?;
+    let mut over_masking = Grace::new(1, Masking::new(&TABLE));
+    over_masking.entered(7, 1);
+    over_masking.stepped(7);
+    over_masking.stepped(7);
+    check_eq(ask(&over_masking, 7, 1, 4112), Verdict::Held)?;
+    over_masking.left(7);
+    check_eq(ask(&over_masking, 7, 1, 4112), Verdict::Back(4100))
+}
+
+#[test]
+fn tables_of_any_bytes() -> Result<(), Fail> {
+    let none = AddressRollback::new(&[]);
+    said(&none, 0, Verdict::Outside)?;
+    said(&none, 4096, Verdict::Outside)?;
+    let zeros = Masking::new(&[0; 160]);
+    said(&zeros, 4096, Verdict::Outside)?;
+    let ones = AbortRestart::new(&[0xFF; 200]);
+    check_eq(ones.section(5).length, u64::MAX)?;
+    said(&ones, 4096, Verdict::Outside)?;
+    said(&ones, u64::MAX, Verdict::Back(u64::MAX))?;
+    let short = AddressRollback::new(&TABLE[0..17]);
+    check_eq(short.section(1).start, 4100)?;
+    check_eq(short.section(1).length, 16)?;
+    check_eq(short.section(1).abort, 0)?;
+    said(&short, 4112, Verdict::Back(4100))
+}
+
+#[test]
+fn generic_code_keeps_what_an_exclusion_answers() -> Result<(), Fail> {
+    let told = [
+        Notice::Entered { cpu: 0, d: 1 },
+        Notice::Stepped { cpu: 0 },
+        Notice::Entered { cpu: 3, d: 2 },
+    ];
+    check_eq(ask_masking(&TABLE, &told, 0, 1, 4108), Verdict::Held)?;
+    check_eq(ask_masking(&TABLE, &told, 1, 1, 4108), Verdict::Back(4100))?;
+    let both = ask_both_classic(&TABLE, &told, 0, 1, 4108);
+    check_eq(both.0, Verdict::Back(4120))?;
+    check_eq(both.1, Verdict::Back(4100))
 }
