@@ -21,7 +21,7 @@ pub enum Call {
     Run {
         cpu: u64,
     },
-    /// Performs instructions until so many are done or an operation has settled.
+    /// Performs instructions until so many are done or an operation has settled, which is to say come to its end.
     Advance {
         cpu: u64,
         instructions: u64,

@@ -3,7 +3,7 @@ use mathlib.Core.Bool.{Bool, true, false, cond}
 use mathlib.Core.List.{List}
 use mathlib.Core.Logic.{_⊎_, inl, inr, ⊎-elim, _≢_}
 use mathlib.Core.Path.{_≡_, refl, sym, _∙_, ap}
-use Prim.Native.Nat.{ℕ, zero, suc, _+_, _-_, _<_, _≤_, max}
+use Prim.Native.Nat.{ℕ, zero, suc, _+_, _-_, _<_, _≤_, max, min}
 use native.Mathlib.Omega.{arith}
 use borrow.Author.Tests.{lt-ltb, le-ltb, ltb-true, ltb-false}
 use lib.Dec.{ltb}
@@ -22,45 +22,47 @@ use Rattle.exclusion.specs.Parts.{patience-at, stepped-down, layered, counted,
 
 -- A CPU above 7 has none.
 pub beyond : (own : List ℕ) (cpu : ℕ) → 7 < cpu → patience-at own cpu ≡ 0
-beyond own cpu h = ap (λ t. cond t (getD own cpu 0) 0) (le-ltb cpu 8 h)
+beyond own cpu h = ap (λ t. cond t (min (getD own cpu 0) 255) 0) (le-ltb cpu 8 h)
 
-below : (own : List ℕ) (cpu : ℕ) → cpu < 8 → patience-at own cpu ≡ getD own cpu 0
-below own cpu h = ap (λ t. cond t (getD own cpu 0) 0) (lt-ltb cpu 8 h)
+below : (own : List ℕ) (cpu : ℕ) → cpu < 8 → patience-at own cpu ≡ min (getD own cpu 0) 255
+below own cpu h = ap (λ t. cond t (min (getD own cpu 0) 255) 0) (lt-ltb cpu 8 h)
+
+-- It is at most 255.
+pub few : (own : List ℕ) (cpu : ℕ) → patience-at own cpu ≤ 255
+few own cpu = elim (ltb cpu 8) as (λ t. cond t (min (getD own cpu 0) 255) 0 ≤ 255) [ true ↦ omega arith | false ↦ omega arith ]
 
 -- Another CPU keeps what it has.
 pub another : (own : List ℕ) (cpu x other : ℕ) → (other ≡ cpu → ⊥) → patience-at (set own cpu x) other ≡ patience-at own other
-another own cpu x other ne = ap (λ n. cond (ltb other 8) n 0) (getD-set-other own cpu other x 0 ne)
+another own cpu x other ne = ap (λ n. cond (ltb other 8) (min n 255) 0) (getD-set-other own cpu other x 0 ne)
 
 -- The CPU that is set has the new number, or, where the list is too short for it, none.
-set-or-none : (own : List ℕ) (cpu x : ℕ) → cpu < 8 → (patience-at (set own cpu x) cpu ≡ x) ⊎ ((patience-at (set own cpu x) cpu ≡ 0) × (patience-at own cpu ≡ 0))
-set-or-none own cpu x h = ⊎-elim (λ lt. inl (within lt)) (λ le. inr (past le)) (cases-lt cpu (length own))
+set-or-none : (own : List ℕ) (cpu x : ℕ) → x ≤ 255 → cpu < 8 → (patience-at (set own cpu x) cpu ≡ x) ⊎ ((patience-at (set own cpu x) cpu ≡ 0) × (patience-at own cpu ≡ 0))
+set-or-none own cpu x small h = ⊎-elim (λ lt. inl (within lt)) (λ le. inr (past le)) (cases-lt cpu (length own))
   where
     within : cpu < length own → patience-at (set own cpu x) cpu ≡ x
-    within lt = below (set own cpu x) cpu h ∙ getD-set-same own cpu x 0 lt
+    within lt = below (set own cpu x) cpu h ∙ ap (λ n. min n 255) (getD-set-same own cpu x 0 lt) ∙ omega arith
 
     past : length own ≤ cpu → (patience-at (set own cpu x) cpu ≡ 0) × (patience-at own cpu ≡ 0)
-    past le = let none = below own cpu h ∙ getD-past own cpu 0 le in (ap (λ xs. patience-at xs cpu) (set-past own cpu x le) ∙ none, none)
+    past le = let none = below own cpu h ∙ ap (λ n. min n 255) (getD-past own cpu 0 le) in (ap (λ xs. patience-at xs cpu) (set-past own cpu x le) ∙ none, none)
 
 stepped-there : (own : List ℕ) (cpu : ℕ) → cpu < 8 → patience-at (stepped-down own cpu) cpu ≡ patience-at own cpu - 1
-stepped-there own cpu h = ⊎-elim (λ e. e) (λ p. let q = p .0 in let r = p .1 in omega arith) (set-or-none own cpu (patience-at own cpu - 1) h)
+stepped-there own cpu h = ⊎-elim (λ e. e) (λ p. let q = p .0 in let r = p .1 in omega arith) (set-or-none own cpu (patience-at own cpu - 1) (let f = few own cpu in omega arith) h)
 
 left-there : (own : List ℕ) (cpu : ℕ) → cpu < 8 → patience-at (set own cpu 0) cpu ≡ 0
-left-there own cpu h = ⊎-elim (λ e. e) (λ p. p .0) (set-or-none own cpu 0 h)
-
-chosen : (own : List ℕ) (cpu x : ℕ) → x ≤ 255 → patience-at (set own cpu x) cpu ≤ 255
-chosen own cpu x few = ⊎-elim (λ lt. ⊎-elim (λ e. omega arith) (λ p. let q = p .0 in omega arith) (set-or-none own cpu x lt)) (λ le. let z = beyond (set own cpu x) cpu le in omega arith) (cases-lt cpu 8)
+left-there own cpu h = ⊎-elim (λ e. e) (λ p. p .0) (set-or-none own cpu 0 (omega arith) h)
 
 -- The layer's meaning has the shape, and obeys what both parts obey.
 pub layered-shaped : (m : Meaning) (own : List ℕ) → Shaped m → Shaped (layered m own)
 layered-shaped m own s = record {
   five-sections = s .five-sections;
   eight-cpus = λ cpu h. let a = beyond own cpu h in let b = s .eight-cpus cpu h in omega arith;
+  at-most-255 = λ cpu. let a = few own cpu in let b = s .at-most-255 cpu in omega arith;
 }
 
-module _ (m n : Meaning) (own : List ℕ) (choice : ℕ → ℕ) (few : (d : ℕ) → choice d ≤ 255) where
+module _ (m n : Meaning) (own : List ℕ) (choice : ℕ → ℕ) where
   pub layered-obeys : (notice : Notice) → Obeys m notice n → Obeys (layered m own) notice (layered n (counted choice own notice))
   layered-obeys (Entered cpu d) (x, small, b) =
-      let mine = chosen own cpu (choice d) (few d) in (
+      let mine = few (set own cpu (choice d)) cpu in (
         max (patience-at (set own cpu (choice d)) cpu) x,
         omega arith,
         record {
@@ -118,12 +120,12 @@ nothing-set own at x cpu z none = ⊎-elim (λ same. here same) (λ ne. another 
   where
     here : cpu ≡ at → patience-at (set own at x) cpu ≡ 0
     here same =
-        ⊎-elim (λ lt. ⊎-elim (λ e. ap (λ c. patience-at (set own at x) c) same ∙ e ∙ z) (λ p. ap (λ c. patience-at (set own at x) c) same ∙ p .0) (set-or-none own at x (omega arith)))
+        ⊎-elim (λ lt. ⊎-elim (λ e. ap (λ c. patience-at (set own at x) c) same ∙ e ∙ z) (λ p. ap (λ c. patience-at (set own at x) c) same ∙ p .0) (set-or-none own at x (omega arith) (omega arith)))
         (λ le. beyond (set own at x) cpu le) (cases-lt cpu 8)
 
 -- No patience at the beginning.
 pub nothing-in : (cpu : ℕ) → patience-at (replicate 8 0) cpu ≡ 0
-nothing-in cpu = ⊎-elim (λ lt. below (replicate 8 0) cpu lt ∙ all-zero 8 cpu) (λ le. beyond (replicate 8 0) cpu le) (cases-lt cpu 8)
+nothing-in cpu = ⊎-elim (λ lt. below (replicate 8 0) cpu lt ∙ ap (λ n. min n 255) (all-zero 8 cpu)) (λ le. beyond (replicate 8 0) cpu le) (cases-lt cpu 8)
   where
     all-zero : (k i : ℕ) → _≡_ {A = ℕ} (getD (replicate k 0) i 0) 0
     all-zero zero i = refl

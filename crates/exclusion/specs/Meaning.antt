@@ -21,10 +21,12 @@ pub record Meaning : Type 0 where
 abbrev pub no-section : Section
 no-section = record { start = 0; length = 0; abort = 0 }
 
--- There are sections 1 to 5 and CPUs 0 to 7: other sections are zeros, and other CPUs have no patience.
+-- There are sections 1 to 5 and CPUs 0 to 7: other sections are zeros, and other CPUs have no patience. A patience is at
+-- most 255.
 pub record Shaped (m : Meaning) : Type 0 where
   pub five-sections : (d : ℕ) → (d ≡ 0) ⊎ (5 < d) → m .section d ≡ no-section
   pub eight-cpus : (cpu : ℕ) → 7 < cpu → m .patience cpu ≡ 0
+  pub at-most-255 : (cpu : ℕ) → m .patience cpu ≤ 255
 
 -- One CPU's patience becomes a number, and nothing else of the meaning changes.
 pub record Patience-becomes (m : Meaning) (cpu x : ℕ) (n : Meaning) : Type 0 where

@@ -19,7 +19,8 @@ impatient sections = record { section = section-at sections; patience = λ cpu. 
 abbrev pub abort-restarts : List Section → ℕ → ℕ → Verdict
 abort-restarts sections armed place = cond (inside (section-at sections armed) place) (Back (section-at sections armed .abort)) Outside
 
--- Address rollback looks at all sections and goes back to the start of the one that the place is inside.
+-- Address rollback looks at all sections and goes back to the start of the one that the place is inside, the first
+-- if it is inside several.
 abbrev pub back-to-start : Option Section → Verdict
 back-to-start None = Outside
 back-to-start (Some section) = Back (section .start)

@@ -1,7 +1,7 @@
 -- What the exclusions share: sections by number, the walk over them, and eight patiences.
 use mathlib.Core.Bool.{cond, _&&_}
 use mathlib.Core.List.{List}
-use Prim.Native.Nat.{ℕ, zero, suc, _+_, _-_, max}
+use Prim.Native.Nat.{ℕ, zero, suc, _+_, _-_, max, min}
 use lib.Dec.{leb, ltb}
 use lib.ListN.{getD, set}
 use Rattle.std.specs.declared.option.Option.{Option}
@@ -27,9 +27,9 @@ first-inside section place (suc k) d = cond (inside (section d) place) (Some (se
 abbrev pub holding : List Section → ℕ → Option Section
 holding sections place = first-inside (section-at sections) place 5 1
 
--- The patience of one of eight CPUs.
+-- The patience of one of eight CPUs, a number of eight bits.
 abbrev pub patience-at : List ℕ → ℕ → ℕ
-patience-at patiences cpu = cond (ltb cpu 8) (getD patiences cpu 0) 0
+patience-at patiences cpu = cond (ltb cpu 8) (min (getD patiences cpu 0) 255) 0
 
 -- One instruction less.
 abbrev pub stepped-down : List ℕ → ℕ → List ℕ

@@ -1,4 +1,4 @@
-//! Grace: a layer over any exclusion that lets a disturber wait for some instructions more.
+//! Grace: a layer over any exclusion that gives every section that is entered at least a stated patience.
 ghost use Prim.Native.Nat.{ℕ};
 ghost use Rattle.exclusion.specs.Ours.{grace-choice};
 ghost use Rattle.exclusion.specs.Parts.{counted, held-while, layered, patience-at};
@@ -25,7 +25,7 @@ impl<E: Exclusion> Grace<E> {
     pub fn new(grace: u8, lower: E) -> Grace<E>
         ensures over_the_lower { λ r. ⌜ r .lower ≡ lower ⌝ }
         ensures of_the_number { λ r. ⌜ r .grace ≡ grace ⌝ }
-        ensures without_patience { λ r. ⌜ r .patience .left ≡ replicate 8 0 ⌝ }
+        ensures without_patience { λ r. ⌜ r .patience .remaining ≡ replicate 8 0 ⌝ }
     {
         Grace {
             lower,
@@ -36,11 +36,11 @@ impl<E: Exclusion> Grace<E> {
 }
 
 pub impl<E: Exclusion> Exclusion for Grace<E> as GraceExclusion {
-    ghost meaning = { λ e. layered (E·Exclusion .meaning (e .lower)) (e .patience .left) };
+    ghost meaning = { λ e. layered (E·Exclusion .meaning (e .lower)) (e .patience .remaining) };
 
-    ghost told = { λ e n f. (f .grace ≡ e .grace) × (f .patience .left ≡ counted (grace-choice (e .grace)) (e .patience .left) n) × E·Exclusion .told (e .lower) n (f .lower) };
+    ghost told = { λ e n f. (f .grace ≡ e .grace) × (f .patience .remaining ≡ counted (grace-choice (e .grace)) (e .patience .remaining) n) × E·Exclusion .told (e .lower) n (f .lower) };
 
-    ghost answers = { λ e cpu armed place v. (w : Verdict) × E·Exclusion .answers (e .lower) cpu armed place w × (v ≡ held-while (patience-at (e .patience .left) cpu) w) };
+    ghost answers = { λ e cpu armed place v. (w : Verdict) × E·Exclusion .answers (e .lower) cpu armed place w × (v ≡ held-while (patience-at (e .patience .remaining) cpu) w) };
 
     fn section(&self, d: usize) -> Section {
         self.lower.section(d)

@@ -24,7 +24,7 @@ impl Masking {
     /// Made from a table of any bytes, with no patience.
     pub fn new(table: &[u8]) -> Masking
         ensures made_from_the_table { λ r. ⌜ r .rollback .sections .list ≡ sections-of (now (table .entry)) ⌝ }
-        ensures without_patience { λ r. ⌜ r .patience .left ≡ replicate 8 0 ⌝ }
+        ensures without_patience { λ r. ⌜ r .patience .remaining ≡ replicate 8 0 ⌝ }
     {
         Masking {
             rollback: AddressRollback::new(table),
@@ -34,11 +34,11 @@ impl Masking {
 }
 
 pub impl Exclusion for Masking as MaskingExclusion {
-    ghost meaning = { λ e. layered (impatient (e .rollback .sections .list)) (e .patience .left) };
+    ghost meaning = { λ e. layered (impatient (e .rollback .sections .list)) (e .patience .remaining) };
 
-    ghost told = { λ e n f. (f .rollback ≡ e .rollback) × (f .patience .left ≡ counted (masking-choice (e .rollback .sections .list)) (e .patience .left) n) };
+    ghost told = { λ e n f. (f .rollback ≡ e .rollback) × (f .patience .remaining ≡ counted (masking-choice (e .rollback .sections .list)) (e .patience .remaining) n) };
 
-    ghost answers = { λ e cpu armed place v. v ≡ held-while (patience-at (e .patience .left) cpu) (rolls-back (e .rollback .sections .list) place) };
+    ghost answers = { λ e cpu armed place v. v ≡ held-while (patience-at (e .patience .remaining) cpu) (rolls-back (e .rollback .sections .list) place) };
 
     fn section(&self, d: usize) -> Section {
         self.rollback.section(d)

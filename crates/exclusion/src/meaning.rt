@@ -21,11 +21,11 @@ pub enum Verdict {
 /// What an exclusion is told.
 #[derive(Clone, Copy)]
 pub enum Notice {
-    /// A CPU's thread has entered section d.
+    /// A CPU's thread has entered section d: told after the section's first instruction.
     Entered { cpu: usize, d: usize },
-    /// It has gone on by one instruction of its section.
+    /// It has gone on by one instruction of its section: told after each later one that does not end the operation.
     Stepped { cpu: usize },
-    /// It has left its section, or the CPU.
+    /// It has left its section, or the CPU: told when the operation ends, and when the thread is taken away or interrupted.
     Left { cpu: usize },
 }
 
@@ -63,7 +63,8 @@ pub trait Exclusion {
     fn left(&mut self, cpu: usize)
         ensures told_so { λ _. ⌜ told (now (self .entry)) (Left cpu) (now (self .exit)) ⌝ };
 
-    /// What becomes of a CPU's thread that is disturbed at a place while a descriptor is armed (0 if none is).
+    /// What becomes of a CPU's thread that is disturbed at a place while a descriptor is armed (0 if none is). A descriptor
+    /// is armed from the entry of its routine until its section ends.
     fn disturbed(&self, cpu: usize, armed: usize, place: u64) -> Verdict
         ensures as_it_answers { λ r. ⌜ answers (now (self .entry)) cpu armed place r ⌝ };
 }

@@ -10,13 +10,13 @@ use image::layout::sections;
 
 /// Five sections, numbered from 1.
 #[derive(Clone, Copy)]
-pub struct Sections {
+pub(crate) struct Sections {
     list: [Section; 5],
 }
 
 impl Sections {
     /// The sections that a table of any bytes tells: its first 160 count, and missing ones as 0.
-    pub fn of(table: &[u8]) -> Sections
+    pub(crate) fn of(table: &[u8]) -> Sections
         ensures defined { λ r. ⌜ r .list ≡ sections-of (now (table .entry)) ⌝ }
     {
         Sections {
@@ -25,7 +25,7 @@ impl Sections {
     }
 
     /// Section d, or zeros if d is not 1 to 5.
-    pub fn section(&self, d: usize) -> Section
+    pub(crate) fn section(&self, d: usize) -> Section
         ensures defined { λ r. ⌜ r ≡ section-at (now (self .entry) .list) d ⌝ }
     {
         if 1 <= d && d <= 5 {
@@ -40,7 +40,7 @@ impl Sections {
     }
 
     /// The first section that a place is inside, if it is inside one.
-    pub fn holding(&self, place: u64) -> Option<Section>
+    pub(crate) fn holding(&self, place: u64) -> Option<Section>
         ensures defined { λ r. ⌜ r ≡ holding (now (self .entry) .list) place ⌝ }
     {
         self.walk(place, 5)
@@ -62,7 +62,7 @@ impl Sections {
 }
 
 /// While there is patience, the disturber waits in place of sending the thread back.
-pub fn held_while(patience: u8, verdict: Verdict) -> Verdict
+pub(crate) fn held_while(patience: u8, verdict: Verdict) -> Verdict
     ensures defined { λ r. ⌜ r ≡ held-while patience verdict ⌝ }
 {
     match verdict {
@@ -71,39 +71,40 @@ pub fn held_while(patience: u8, verdict: Verdict) -> Verdict
     }
 }
 
-/// The patience of each of eight CPUs.
+/// The patience of each of eight CPUs: how many more instructions of the section that was entered there a disturber has to
+/// wait for.
 #[derive(Clone, Copy)]
-pub struct Patience {
-    left: [u8; 8],
+pub(crate) struct Patience {
+    remaining: [u8; 8],
 }
 
 impl Patience {
     /// No patience on any CPU.
-    pub fn none() -> Patience
-        ensures defined { λ r. ⌜ r .left ≡ replicate 8 0 ⌝ }
+    pub(crate) fn none() -> Patience
+        ensures defined { λ r. ⌜ r .remaining ≡ replicate 8 0 ⌝ }
     {
-        Patience { left: [0; 8] }
+        Patience { remaining: [0; 8] }
     }
 
     /// The patience of a CPU; one above 7 has none.
-    pub fn at(&self, cpu: usize) -> u8
-        ensures defined { λ r. ⌜ r ≡ patience-at (now (self .entry) .left) cpu ⌝ }
+    pub(crate) fn at(&self, cpu: usize) -> u8
+        ensures defined { λ r. ⌜ r ≡ patience-at (now (self .entry) .remaining) cpu ⌝ }
     {
-        if cpu < 8 { self.left[cpu] } else { 0 }
+        if cpu < 8 { self.remaining[cpu] } else { 0 }
     }
 
     /// Gives a CPU a patience; one above 7 keeps none.
-    pub fn set(&mut self, cpu: usize, patience: u8)
-        ensures defined { λ _. ⌜ now (self .exit) .left ≡ set (now (self .entry) .left) cpu patience ⌝ }
+    pub(crate) fn set(&mut self, cpu: usize, patience: u8)
+        ensures defined { λ _. ⌜ now (self .exit) .remaining ≡ set (now (self .entry) .remaining) cpu patience ⌝ }
     {
         if cpu < 8 {
-            self.left[cpu] = patience;
+            self.remaining[cpu] = patience;
         }
     }
 
     /// Takes one instruction off the patience of a CPU, if it has any.
-    pub fn step(&mut self, cpu: usize)
-        ensures defined { λ _. ⌜ now (self .exit) .left ≡ stepped-down (now (self .entry) .left) cpu ⌝ }
+    pub(crate) fn step(&mut self, cpu: usize)
+        ensures defined { λ _. ⌜ now (self .exit) .remaining ≡ stepped-down (now (self .entry) .remaining) cpu ⌝ }
     {
         self.set(cpu, self.at(cpu).saturating_sub(1));
     }

@@ -44,8 +44,8 @@ fn put<E: Exclusion>(exclusion: &E, cpu: usize, armed: usize, place: u64) -> Ver
     exclusion.disturbed(cpu, armed, place)
 }
 
-/// Asks an exclusion. No exclusion says Outside in the armed section alone, and none says Held without patience, so one that
-/// never lets go has not the meaning.
+/// Asks an exclusion. At a question that is not free, no exclusion says Outside in the armed section, and none says Held
+/// without patience, so one that never lets go has not the meaning.
 pub fn ask<E: Exclusion>(exclusion: &E, cpu: usize, armed: usize, place: u64) -> Verdict
     ensures as_it_answers { λ r. ⌜ E·Exclusion .answers (now (exclusion .entry)) cpu armed place r ⌝ }
     ensures never_outside_in_the_armed_section { λ r. ⌜ Not-outside-when-armed (E·Exclusion .meaning (now (exclusion .entry))) armed place r ⌝ }

@@ -37,8 +37,11 @@ pub enum Refusal {
 /// The part of the stepping machine that refused.
 #[derive(Clone, Copy)]
 pub enum Layer {
+    /// The checks of a descriptor.
     Descriptor,
+    /// The reading and writing of schedules.
     Schedule,
+    /// Boot and the calls.
     Machine,
 }
 

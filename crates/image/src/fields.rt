@@ -20,14 +20,23 @@ pub struct Sizes {
 /// A number of a job. Its own number is the place by which a refusal names it.
 #[derive(Clone, Copy)]
 pub enum Field {
+    /// Which exclusion the job asks for.
     Exclusion = 1,
+    /// The least patience of a section that was entered.
     Grace = 2,
+    /// The number of CPUs.
     Cpus = 3,
+    /// The number of threads.
     Threads = 4,
+    /// The number of nodes.
     Nodes = 5,
+    /// How many packets a ring holds.
     Packets = 6,
+    /// The counters on a CPU.
     Counters = 7,
+    /// The word that stands before every abort.
     Signature = 8,
+    /// A word of the text.
     TextWord = 9,
 }
 

@@ -13,15 +13,17 @@ use image::layout::Descriptor;
 use image::layout::TEXT_START;
 use numbers::number_at;
 use schedule::body::CallAt;
-use schedule::body::read_calls;
+use schedule::body::read_schedule;
 use schedule::header::SCHEDULE_LENGTH;
 use schedule::header::field_at;
-use schedule::header::job_at;
 use std::alloc::AllocError;
 use std::alloc::Global;
 use std::error::AnyError;
 use std::io::Read;
 use words::Kind;
+
+#[cfg(test)]
+mod tests;
 
 /// The numbers of a header, in their order.
 const HEADER: [Field; 8] = [
@@ -242,39 +244,33 @@ fn list_fault(out: &mut String, heap: Global, fault: Fault) -> Result<(), AllocE
     Ok(())
 }
 
-/// Lists the calls from an offset on, and the fault or the end.
-fn list_calls(
-    out: &mut String,
-    heap: Global,
-    bytes: &[u8],
-    first: usize,
-) -> Result<(), AllocError> {
-    let read = read_calls(heap, bytes, first)?;
+/// Lists calls, each with its number and its offset.
+fn list_calls(out: &mut String, heap: Global, calls: &[CallAt]) -> Result<(), AllocError> {
     let mut number: u64 = 0;
-    for listed in read.calls.iter() {
+    for listed in calls {
         number = number.wrapping_add(1);
-        let CallAt { at, call } = *listed;
-        let text = call_text(heap, call)?;
+        let at = listed.at;
+        let text = call_text(heap, listed.call)?;
         let line = format!(heap, "call {number} at {at} {text}\n")?;
         out.push_str(line.as_str())?;
     }
-    match read.fault {
-        Some(fault) => list_fault(out, heap, fault),
-        None => {
-            let length = bytes.len();
-            let line = format!(heap, "end after {number} calls at {length}\n")?;
-            out.push_str(line.as_str())
-        }
-    }
+    Ok(())
 }
 
 /// What the schedule says.
 fn listing(heap: Global, bytes: &[u8]) -> Result<String, AllocError> {
     let mut out = String::new(heap);
     list_job(&mut out, heap, bytes)?;
-    match job_at(bytes) {
-        Ok((_, at)) => list_calls(&mut out, heap, bytes, at)?,
-        Err(fault) => list_fault(&mut out, heap, fault)?,
+    let read = read_schedule(heap, bytes)?;
+    list_calls(&mut out, heap, read.calls.as_slice())?;
+    match read.fault {
+        Some(fault) => list_fault(&mut out, heap, fault)?,
+        None => {
+            let count = read.calls.len();
+            let length = bytes.len();
+            let line = format!(heap, "end after {count} calls at {length}\n")?;
+            out.push_str(line.as_str())?;
+        }
     }
     Ok(out)
 }

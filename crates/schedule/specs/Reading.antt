@@ -129,3 +129,19 @@ calls-after at rest (Err fault) = record { calls = []; fault = Some fault }
 unfoldable pub calls-from : ℕ → List ℕ → ℕ → Calls-read
 calls-from zero bytes at = record { calls = []; fault = None }
 calls-from (suc k) bytes at = cond (ltb at (length bytes)) (calls-after at (λ next. calls-from k bytes next) (call-at bytes at)) (record { calls = []; fault = None })
+
+-- A whole schedule: its job, its calls as far as they can be read, and the fault that ended the reading, if one did.
+pub record Schedule-read : Type 0 where
+  pub job : Option Job
+  pub calls : List CallAt
+  pub fault : Option Fault
+
+abbrev pub with-job : Job → Calls-read → Schedule-read
+with-job job read = record { job = Some job; calls = read .calls; fault = read .fault }
+
+abbrev pub behind-job : List ℕ → Read Job → Schedule-read
+behind-job bytes (Ok p) = with-job (p .0) (calls-from (length bytes) bytes (p .1))
+behind-job bytes (Err fault) = record { job = None; calls = []; fault = Some fault }
+
+abbrev pub schedule-read : List ℕ → Schedule-read
+schedule-read bytes = behind-job bytes (job-at bytes)

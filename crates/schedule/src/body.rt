@@ -1,12 +1,14 @@
 //! The calls of a schedule, read one by one.
 ghost use Prim.Native.Nat.{_+_, _<_, _≤_, ℕ};
-ghost use Rattle.schedule.specs.Reading.{Calls-read, call-at, call-by, calls-from, operation-at};
+ghost use Rattle.schedule.specs.Reading.{Calls-read, call-at, call-by, calls-from, operation-at, schedule-read};
 ghost use Rattle.std.specs.Of.Vec.{vec-items};
 ghost use Rattle.std.specs.Results.{Cases};
 ghost use Rattle.std.specs.Vec.{made};
 ghost use lib.ListN.{length};
 ghost use mathlib.Core.List.{[]};
 ghost use mathlib.Core.Path.{_≡_};
+use super::header::job_at;
+use super::job::Job;
 use calls::Call;
 use calls::CallDebug;
 use calls::CallPartialEq;
@@ -116,4 +118,35 @@ fn collect_calls(empty: Vec<CallAt>, bytes: &[u8], first: usize) -> Result<Calls
         }
     }
     Ok(CallsRead { calls, fault: None })
+}
+
+/// A schedule as far as it can be read: its job, if that is accepted, its calls, each with its offset, and the fault that
+/// ended the reading, if one did.
+#[derive(Drop)]
+pub struct ScheduleRead {
+    pub job: Option<Job>,
+    pub calls: Vec<CallAt>,
+    pub fault: Option<Fault>,
+}
+
+/// Reads a whole schedule, of any bytes.
+pub fn read_schedule(heap: Global, bytes: &[u8]) -> Result<ScheduleRead, AllocError>
+    ensures defined { λ r. ⌜ made r (λ read. record { job = read .job; calls = vec-items (read .calls); fault = read .fault } ≡ schedule-read (now (bytes .entry))) ⌝ }
+{
+    match job_at(bytes) {
+        Ok((job, at)) => {
+            let CallsRead { calls, fault } = read_calls(heap, bytes, at)?;
+            let job = Some(job);
+            Ok(ScheduleRead { job, calls, fault })
+        }
+        Err(fault) => {
+            let calls = Vec::new(heap);
+            let fault = Some(fault);
+            Ok(ScheduleRead {
+                job: None,
+                calls,
+                fault,
+            })
+        }
+    }
 }

@@ -1,11 +1,14 @@
 //! What a schedule's header tells.
 use image::fields::Sizes;
 
-/// The exclusion that a job asks for by its number.
+/// The exclusion that a job asks for by its number: what keeps a restartable section from being disturbed halfway.
 #[derive(Clone, Copy, PartialEq, Eq, Debug)]
 pub enum ExclusionName {
+    /// Abort restart.
     Abort = 0,
+    /// Address rollback.
     Rollback = 1,
+    /// Masking.
     Masking = 2,
 }
 
@@ -20,7 +23,7 @@ pub struct Text {
 #[derive(Clone, Copy)]
 pub struct Job {
     pub exclusion: ExclusionName,
-    /// How many instructions of a section a disturber has to wait at the most, over what the exclusion itself asks for.
+    /// The least patience of a section that was entered: how many more of its instructions a disturber has to wait for.
     pub grace: u8,
     pub sizes: Sizes,
     pub signature: u32,

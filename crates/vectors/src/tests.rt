@@ -1,5 +1,4 @@
 //! Runs of the vectors.
-use super::sample::*;
 use calls::Call;
 use calls::CallDebug;
 use calls::CallPartialEq;
@@ -31,11 +30,18 @@ use image::layout::SectionDebug;
 use image::layout::SectionPartialEq;
 use numbers::number_at;
 use numbers::write_number;
+use sample::POP;
+use sample::POP_BREAKS;
+use sample::POP_HEADER;
+use sample::SIGNATURE;
+use sample::TABLE;
+use sample::TEXT;
 use schedule::body::CallAt;
 use schedule::body::CallAtDebug;
 use schedule::body::CallAtPartialEq;
 use schedule::body::call_at;
 use schedule::body::read_calls;
+use schedule::body::read_schedule;
 use schedule::header::header_at;
 use schedule::header::job_at;
 use std::alloc::Global;
@@ -264,17 +270,13 @@ fn sizes_and_lengths_are_held_to_their_limits() -> Result<(), Fail> {
 }
 
 /// Where a front of the example schedule breaks off.
-fn breaks(heap: Global, front: &[u8]) -> Result<usize, Fail> {
-    let fault = match job_at(front) {
-        Ok((_, at)) => read_calls(heap, front, at)?.fault,
-        Err(fault) => Some(fault),
-    };
-    match fault {
+fn breaks(heap: Global, front: &[u8]) -> Result<Option<usize>, Fail> {
+    match read_schedule(heap, front)?.fault {
         Some(fault) => {
             check_eq(fault, Fault::at(Refusal::EndsInside, fault.place))?;
-            Ok(fault.place)
+            Ok(Some(fault.place))
         }
-        None => Ok(999),
+        None => Ok(None),
     }
 }
 
@@ -328,6 +330,8 @@ fn header_refused(at: usize, byte: u8, fault: Fault) -> Result<(), Fail> {
 fn a_refused_job_tells_boots_fault() -> Result<(), Fail> {
     header_refused(0, b'K', Fault::at(Refusal::UnknownLetter, 0))?;
     header_refused(1, 3, Fault::by_boot(1, Fault::at(Refusal::OutOfRange, 1)))?;
+    header_refused(4, 17, Fault::by_boot(4, Fault::at(Refusal::OutOfRange, 4)))?;
+    header_refused(6, 16, Fault::by_boot(6, Fault::at(Refusal::OutOfRange, 6)))?;
     header_refused(3, 0, Fault::by_boot(3, Fault::at(Refusal::OutOfRange, 3)))?;
     header_refused(7, 9, Fault::by_boot(7, Fault::at(Refusal::OutOfRange, 7)))?;
     header_refused(
@@ -355,6 +359,21 @@ fn a_refused_job_tells_boots_fault() -> Result<(), Fail> {
 #[test]
 fn letters_of_calls() -> Result<(), Fail> {
     check_eq(call_at(b"r\x05", 0), Ok((Call::Run { cpu: 5 }, 2)))?;
+    let operation = RawOperation {
+        kind: 9,
+        counter: 1,
+        amount: 2,
+    };
+    check_eq(
+        call_at(b"g\x07\x09\x01\x02", 0),
+        Ok((
+            Call::Signal {
+                thread: 7,
+                operation,
+            },
+            5,
+        )),
+    )?;
     check_eq(call_at(b"i\x80\x01", 0), Ok((Call::Idle { cpu: 128 }, 3)))?;
     check_eq(
         call_at(b"..x", 2),

@@ -5,9 +5,14 @@ ghost use Rattle.std.specs.Options.{Cases};
 ghost use mathlib.Core.Path.{_≡_};
 
 /// An instruction of a text. The number is the one that stands for it in the text.
+///
+/// Instructions work on the registers q, a, b and w of a thread, on its hand, which holds a node or nothing, and on the
+/// structures of CPU q: counters, a list of nodes, and a ring of packets. "Ends with" says that the operation is over, with
+/// that answer.
 #[derive(Clone, Copy)]
 pub enum Word {
-    /// The entry of a routine: the descriptor is armed, and its section begins.
+    /// The entry of a routine: its descriptor is armed, which marks the thread as being in that routine, and its section
+    /// begins.
     Enter = 1,
     /// Register q becomes the number of the CPU.
     ReadCpu = 2,

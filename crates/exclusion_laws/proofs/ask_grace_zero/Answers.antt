@@ -8,7 +8,7 @@ pub returns : need.returns
 returns g c =
     let new = c .new-layer in
     let asked = c .tell-and-ask-verdict in
-    let both = grace-zero (λ e. e .lower) (λ e. e .grace) (λ e. e .patience .left) (g .E·Exclusion .told) (new .result) (c .args .notices .now) (asked .last .exclusion) (new .ensures .of-the-number) (fresh (new .result .patience .left) (new .ensures .without-patience)) (asked .ensures .told-so) in
+    let both = grace-zero (λ e. e .lower) (λ e. e .grace) (λ e. e .patience .remaining) (g .E·Exclusion .told) (new .result) (c .args .notices .now) (asked .last .exclusion) (new .ensures .of-the-number) (fresh (new .result .patience .remaining) (new .ensures .without-patience)) (asked .ensures .told-so) in
     let answer = asked .ensures .as-it-answers in
     record {
       the-lower-is-told-the-same = subst (λ l. Told-all (g .E·Exclusion .told) l (c .args .notices .now) (asked .last .exclusion .lower)) (new .ensures .over-the-lower) (both .0);

@@ -21,8 +21,8 @@ pub returns : need.returns
 returns c =
     let new = c .new-masking in
     let asked = c .tell-and-ask in
-    let both = counted-on (λ e. e .rollback) (λ e. e .patience .left) (λ r. masking-choice (r .sections .list)) (new .result) (c .args .notices .now) (asked .last .exclusion) (asked .ensures .told-so) in
+    let both = counted-on (λ e. e .rollback) (λ e. e .patience .remaining) (λ r. masking-choice (r .sections .list)) (new .result) (c .args .notices .now) (asked .last .exclusion) (asked .ensures .told-so) in
     record {
-      determined = determined (new .result .rollback .sections .list) _ (asked .last .exclusion .rollback .sections .list) (new .result .patience .left) (asked .last .exclusion .patience .left) (c .args .notices .now)
+      determined = determined (new .result .rollback .sections .list) _ (asked .last .exclusion .rollback .sections .list) (new .result .patience .remaining) (asked .last .exclusion .patience .remaining) (c .args .notices .now)
           (c .args .cpu) (c .args .place) (asked .result) (new .ensures .made-from-the-table) (new .ensures .without-patience) (ap (λ r. r .sections .list) (both .0)) (both .1) (asked .ensures .as-it-answers);
     }

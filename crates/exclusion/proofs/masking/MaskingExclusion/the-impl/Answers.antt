@@ -10,10 +10,10 @@ use Rattle.exclusion.proofs.masking.MaskingExclusion.the-impl.Needs as need
 pub obeys-law : need.obeys-law
 obeys-law e n f told =
     let sections = e .rollback .sections .list in
-    let made = layered-obeys (impatient sections) (impatient sections) (e .patience .left) (masking-choice sections) (λ d. omega arith) n (impatient-obeys sections n) in
+    let made = layered-obeys (impatient sections) (impatient sections) (e .patience .remaining) (masking-choice sections) n (impatient-obeys sections n) in
     rw (told .0, told .1) made
 
 pub says-law : need.says-law
 says-law e cpu armed place v answer =
     let sections = e .rollback .sections .list in
-    rw answer (layered-says (impatient sections) (e .patience .left) cpu armed place (rolls-back sections place) (rollback-says sections cpu armed place (rolls-back sections place) refl))
+    rw answer (layered-says (impatient sections) (e .patience .remaining) cpu armed place (rolls-back sections place) (rollback-says sections cpu armed place (rolls-back sections place) refl))
