@@ -5,7 +5,7 @@ use Prim.Native.Nat.{ℕ}
 use lib.Dec.{leb}
 use Rattle.std.specs.declared.option.Option.the-variants.{None, Some}
 use Rattle.faults.specs.declared.Refusal.{Refusal}
-use Rattle.faults.specs.declared.Refusal.the-variants.{OutOfRange, ImageLength, Version, Flags, Unaddressable, AbortInside, Unsigned, WrongWords, NoRoom, EndsInside, WrongSpelling, UnknownLetter, BootRefused}
+use Rattle.faults.specs.declared.Refusal.the-variants.{OutOfRange, ImageLength, Version, Flags, Unaddressable, AbortInside, Unsigned, WrongWords, OtherSections, NoCpu, NoThread, NoOperation, Busy, StackFull, Current, Idle, NoWork, Held, NoRoom, EndsInside, WrongSpelling, UnknownLetter, BootRefused}
 use Rattle.faults.specs.declared.Layer.{Layer}
 use Rattle.faults.specs.declared.Layer.the-variants.{Descriptor, Schedule, Machine}
 use Rattle.faults.specs.declared.Fault.{Fault}
@@ -20,6 +20,16 @@ number-of Unaddressable = 5
 number-of AbortInside = 6
 number-of Unsigned = 7
 number-of WrongWords = 8
+number-of OtherSections = 9
+number-of NoCpu = 10
+number-of NoThread = 11
+number-of NoOperation = 12
+number-of Busy = 13
+number-of StackFull = 14
+number-of Current = 15
+number-of Idle = 16
+number-of NoWork = 17
+number-of Held = 18
 number-of NoRoom = 19
 number-of EndsInside = 20
 number-of WrongSpelling = 21

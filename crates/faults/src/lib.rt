@@ -22,6 +22,26 @@ pub enum Refusal {
     Unsigned = 7,
     /// The words of a descriptor's routine are not those of its operation.
     WrongWords = 8,
+    /// The exclusion's sections are not those of the table.
+    OtherSections = 9,
+    /// There is no such CPU.
+    NoCpu = 10,
+    /// There is no such thread.
+    NoThread = 11,
+    /// There is no such operation.
+    NoOperation = 12,
+    /// The thread has an operation already.
+    Busy = 13,
+    /// The thread's stack is full.
+    StackFull = 14,
+    /// The thread is current on a CPU.
+    Current = 15,
+    /// The CPU has no thread.
+    Idle = 16,
+    /// The CPU's thread has no operation.
+    NoWork = 17,
+    /// The exclusion holds the disturber.
+    Held = 18,
     /// A buffer has too little room.
     NoRoom = 19,
     /// The schedule ends inside a number, the table, a job or a call, or is too long.

@@ -1,0 +1,10 @@
+use Rattle.image.specs.Checks.{text-check}
+use Rattle.schedule.proofs.Refusing.{refused-number}
+use Rattle.schedule.proofs.header.word_count_at.Needs as need
+
+pub returns-in-Err : need.returns-in-Err
+returns-in-Err c = record {
+  defined = refused-number (c .args .bytes .now) (c .args .at) (c .in-Continue-n .n) (c .in-Continue-n .next) text-check (c .in-Err .fault) (c .by-boot .result) (c .by-boot .ensures .placed)
+      (c .in-Continue-n .ensures tt .defined) (c .in-Err .ensures tt .defined);
+  within-limits = tt;
+}
