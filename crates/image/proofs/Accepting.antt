@@ -84,10 +84,10 @@ every-kind P all Put = all .1 .1 .1 .0
 every-kind P all Take = all .1 .1 .1 .1 .0
 
 -- The rules by their tests.
-between-parts : (low high n : ℕ) → between low high n ≡ true → (low ≤ n) × (n ≤ high)
+pub between-parts : (low high n : ℕ) → between low high n ≡ true → (low ≤ n) × (n ≤ high)
 between-parts low high n e = let p = and-parts (leb low n) (leb n high) e in (leb-true low n (p .0), leb-true n high (p .1))
 
-between-from : (low high n : ℕ) → (low ≤ n) × (n ≤ high) → between low high n ≡ true
+pub between-from : (low high n : ℕ) → (low ≤ n) × (n ≤ high) → between low high n ≡ true
 between-from low high n h = and-from (leb low n) (leb n high) (le-leb low n (h .0)) (le-leb n high (h .1))
 
 outside-from : (section : Section) (address : ℕ) → (Inside section address → ⊥) → inside section address ≡ false

@@ -4,10 +4,8 @@ use mathlib.Core.List.{List, [], _∷_, _++_, append-assoc}
 use mathlib.Core.Path.{_≡_, refl, sym, _∙_, ap, subst₂}
 use Prim.Native.Nat.{ℕ, zero, suc, _+_, _-_, _^_, _<_, _≤_}
 use native.Mathlib.Omega.{arith}
-use lib.Dec.{leb}
 use lib.ListN.{length, drop, length-append}
 use Rattle.std.proofs.shelf.Lists.{drop-drop, drop-at}
-use Rattle.std.proofs.shelf.Tests.{and-from, and-parts, le-leb, leb-true}
 use Rattle.std.specs.declared.result.Result.{Result}
 use Rattle.std.specs.declared.result.Result.the-variants.{Ok, Err}
 use Rattle.faults.specs.declared.Fault.{Fault}
@@ -17,7 +15,8 @@ use Rattle.numbers.specs.Reading.{number-at}
 use Rattle.numbers.proofs.Spelled.{read-there, was-there}
 use Rattle.image.specs.declared.fields.Field.{Field}
 use Rattle.image.specs.declared.fields.Field.the-variants.{Exclusion, Grace, Cpus, Threads, Nodes, Packets, Counters, Signature, TextWord}
-use Rattle.image.specs.Checks.{Check, first-failing, field-check, text-check, between, least, largest}
+use Rattle.image.specs.Checks.{Check, first-failing, field-check, text-check, least, largest}
+use Rattle.image.proofs.Accepting.{between-parts, between-from}
 use Rattle.schedule.specs.Format.{Within}
 use Rattle.schedule.specs.Reading.{Read, and-then, refused-by-boot, field-at, word-count-at}
 
@@ -36,7 +35,7 @@ pub record Split {X Y : Type 0} (r : Read X) (next : X → ℕ → Read Y) (z : 
   pub first : r ≡ Ok (value, at)
   pub second : next value at ≡ Ok z
 
-err-no-ok : {X P : Type 0} {f : Fault} {x : X} → _≡_ {A = Result X Fault} (Err f) (Ok x) → P
+pub err-no-ok : {X P : Type 0} {f : Fault} {x : X} → _≡_ {A = Result X Fault} (Err f) (Ok x) → P
 err-no-ok e = let z : _≡_ {A = ℕ} 0 1 = cc in absurd (omega arith)
 
 pub split : {X Y : Type 0} (r : Read X) (next : X → ℕ → Read Y) (z : Y × ℕ) → and-then r next ≡ Ok z → Split r next z
@@ -80,9 +79,6 @@ behind-it bytes at these rest e = sym (drop-drop (length these) at bytes) ∙ ap
 pub number-there : (bytes : List ℕ) (at n : ℕ) (rest : List ℕ) → n < 2 ^ 64 → drop at bytes ≡ spelling n ++ rest → Reads-there (number-at bytes at) n bytes at (length (spelling n)) rest
 number-there bytes at n rest h e = record { answer = read-there bytes at n rest h e; onward = behind-it bytes at (spelling n) rest e }
 
-between-from : (low high n : ℕ) → (low ≤ n) × (n ≤ high) → between low high n ≡ true
-between-from low high n h = and-from (leb low n) (leb n high) (le-leb low n (h .0)) (le-leb n high (h .1))
-
 field-small : (field : Field) (n : ℕ) → Within field n → n < 2 ^ 64
 field-small Exclusion n w = omega arith
 field-small Grace n w = omega arith
@@ -115,9 +111,6 @@ count-there bytes at n rest w e =
 -- What was read stood there.
 pub number-stood : (bytes : List ℕ) (at n next : ℕ) → Bytes bytes → number-at bytes at ≡ Ok (n, next) → (n < 2 ^ 64) × Stands bytes at (spelling n) next
 number-stood bytes at n next ok e = let w = was-there bytes at n next ok e in (w .0, record { there = w .1; behind = w .2 })
-
-between-parts : (low high n : ℕ) → between low high n ≡ true → (low ≤ n) × (n ≤ high)
-between-parts low high n e = let p = and-parts (leb low n) (leb n high) e in (leb-true low n (p .0), leb-true n high (p .1))
 
 module _ (bytes : List ℕ) (at n next : ℕ) (ok : Bytes bytes) where
   checked-stood : (check : ℕ → Check) → and-then (number-at bytes at) (λ m there. refused-by-boot at (first-failing (m, there) (check m ∷ []))) ≡ Ok (n, next)

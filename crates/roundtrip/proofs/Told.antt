@@ -29,10 +29,7 @@ use Rattle.schedule.specs.declared.job.Text.{Text}
 use Rattle.schedule.specs.Format.{written-numbers, exclusion-number, words-of, padded, written-job, written-operation, written-call, Within, Tellable-job, Tellable-operation, Tellable}
 use Rattle.schedule.specs.Reading.{Read, and-then, field-at, sizes-at, table-at, words-at, padded-words-at, word-count-at, text-at, exclusion-of, parts-at, header-at, operation-at, call-by, call-at}
 use Rattle.roundtrip.specs.Laws.{Header-was-written, Call-was-written}
-use Rattle.roundtrip.proofs.Parsing.{Stands, Split, split, same-value, same-place, number-stood, field-stood, count-stood, stands-then}
-
-err-no-ok : {X P : Type 0} {f : Fault} {x : X} → _≡_ {A = Result X Fault} (Err f) (Ok x) → P
-err-no-ok e = let z : _≡_ {A = ℕ} 0 1 = cc in absurd (omega arith)
+use Rattle.roundtrip.proofs.Parsing.{Stands, Split, split, err-no-ok, same-value, same-place, number-stood, field-stood, count-stood, stands-then}
 
 -- Words.
 pub record Words-stood (bytes : List ℕ) (k at : ℕ) (words : List ℕ) (next : ℕ) : Type 0 where
