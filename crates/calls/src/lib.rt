@@ -1,5 +1,6 @@
 //! The calls that are put to a machine, as they are asked for: every operand is any number of 64 bits, and is checked when
 //! the call is made.
+#![tactic(auto)]
 
 /// An operation as it is asked for: its kind by number, a counter and an amount.
 #[derive(Clone, Copy, PartialEq, Eq, Debug)]

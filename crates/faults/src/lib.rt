@@ -1,4 +1,6 @@
 //! Refusals: why something was refused, and where.
+#![tactic(auto)]
+
 ghost use Rattle.faults.specs.declared.Refusal.{Refusal};
 ghost use Rattle.faults.specs.Numbering.{Apart, boot_fault, fault_at, layer_of, number_of};
 ghost use Rattle.std.specs.Prelude.{◌≡◌};

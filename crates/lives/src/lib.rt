@@ -1,4 +1,5 @@
 //! The proof that whatever calls a machine has had, it holds what the ledger holds, loses nothing, and makes progress.
+#![tactic(auto)]
 ghost use Rattle.model.specs.Claims.{Lives-are-faithful};
 
 use exclusion::meaning::Exclusion;

@@ -1,4 +1,5 @@
 //! The machine: boot, the calls and the questions.
+#![tactic(auto)]
 mod asking;
 mod boot;
 mod disturb;

@@ -1,5 +1,7 @@
 //! Seven-bit numbers: groups of seven bits, the lowest first, the top bit set on all bytes but the last. A number is below
 //! 2^64 and has one spelling, the shortest.
+#![tactic(auto)]
+
 ghost use Rattle.std.specs.Prelude.{◌≡◌, ℕ, ◌+◌, ◌<◌, ◌≤◌, length, IfOk};
 ghost use Rattle.numbers.specs.Laws.{OneNumber, OneSpelling, ReaderAnswersWhatIsSpelled, ReadsBack, WrittenAlone, WrittenSpells};
 ghost use Rattle.numbers.specs.Reading.{Written, number_at};

@@ -1,4 +1,5 @@
 //! The sample image and the example schedule, worked out apart from the code.
+#![tactic(auto)]
 
 /// The sample text: the five routines in order, each as entry, section, signature and abort.
 pub const TEXT: [u32; 42] = [

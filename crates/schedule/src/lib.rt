@@ -1,4 +1,5 @@
 //! Schedules: a job and the calls to make on it, as bytes.
+#![tactic(auto)]
 pub mod body;
 pub mod header;
 pub mod job;

@@ -1,4 +1,6 @@
 //! The words of a text, and the operations whose routines they make.
+#![tactic(auto)]
+
 ghost use Rattle.words.specs.Words.{code, kind_number, kind_of, kinds, section_words};
 ghost use Rattle.words.specs.declared.Kind.{Kind};
 ghost use Rattle.std.specs.Prelude.{◌≡◌, MatchOption, ◌≢◌};

@@ -12,14 +12,14 @@ returns c =
     let sections = sections_of c.args.table.now in
     let armed = c.args.armed in
     let place = c.args.place in
-    let one = c.tell-and-ask-by-abort in
-    let other = c.tell-and-ask-by-rollback in
+    let one = c.tell_and_ask-by_abort in
+    let other = c.tell_and_ask-by_rollback in
     let first : one.result ≡ abort_restarts sections armed place =
-    one.ensures.as-it-answers ∙ ap (λ e. abort_restarts e.sections.list armed place) (unmoved _ c.args.notices.now _ one.ensures.told-so) ∙ ap (λ s. abort_restarts s armed place) c.new-abort.ensures.made-from-the-table in
+    one.ensures.as_it_answers ∙ ap (λ e. abort_restarts e.sections.list armed place) (unmoved _ c.args.notices.now _ one.ensures.told_so) ∙ ap (λ s. abort_restarts s armed place) c.new-abort.ensures.made_from_the_table in
     let second : other.result ≡ rolls_back sections place =
-    other.ensures.as-it-answers ∙ ap (λ e. rolls_back e.sections.list place) (unmoved _ c.args.notices.now _ other.ensures.told-so) ∙ ap (λ s. rolls_back s place) c.new-rollback.ensures.made-from-the-table in
+    other.ensures.as_it_answers ∙ ap (λ e. rolls_back e.sections.list place) (unmoved _ c.args.notices.now _ other.ensures.told_so) ∙ ap (λ s. rolls_back s place) c.new-rollback.ensures.made_from_the_table in
     record {
-      the-first-restarts-by-abort = first;
-      the-second-rolls-back = second;
-      they-agree-on-when = agree sections c.args.cpu armed place one.result other.result (abort_says sections c.args.cpu armed place one.result first) (rollback_says sections c.args.cpu armed place other.result second);
+      the_first_restarts_by_abort = first;
+      the_second_rolls_back = second;
+      they_agree_on_when = agree sections c.args.cpu armed place one.result other.result (abort_says sections c.args.cpu armed place one.result first) (rollback_says sections c.args.cpu armed place other.result second);
     }

@@ -7,10 +7,10 @@ use Rattle.exclusion_laws.proofs.ask_grace_zero.Goals as goal
 pub returns : goal.returns
 returns g c =
     let new = c.new-layer in
-    let asked = c.tell-and-ask-verdict in
-    let both = grace_zero (λ e. e.lower) (λ e. e.grace) (λ e. e.patience.remaining) g.E.Exclusion.told new.result c.args.notices.now asked.new.exclusion new.ensures.of-the-number (fresh new.result.patience.remaining new.ensures.without_patience) asked.ensures.told-so in
-    let answer = asked.ensures.as-it-answers in
+    let asked = c.tell_and_ask-verdict in
+    let both = grace_zero (λ e. e.lower) (λ e. e.grace) (λ e. e.patience.remaining) g.E.Exclusion.told new.result c.args.notices.now asked.new.exclusion new.ensures.of_the_number (fresh new.result.patience.remaining new.ensures.without_patience) asked.ensures.told_so in
+    let answer = asked.ensures.as_it_answers in
     record {
-      the-lower-is-told-the-same = subst (λ l. ToldAll g.E.Exclusion.told l c.args.notices.now asked.new.exclusion.lower) new.ensures.over-the-lower both.0;
-      as-the-lower-answers = subst (λ v. g.E.Exclusion.answers asked.new.exclusion.lower c.args.cpu c.args.armed c.args.place v) (sym (no_wait _ _ answer.0 (both.1 c.args.cpu) answer.2)) answer.1;
+      the_lower_is_told_the_same = subst (λ l. ToldAll g.E.Exclusion.told l c.args.notices.now asked.new.exclusion.lower) new.ensures.over_the_lower both.0;
+      as_the_lower_answers = subst (λ v. g.E.Exclusion.answers asked.new.exclusion.lower c.args.cpu c.args.armed c.args.place v) (sym (no_wait _ _ answer.0 (both.1 c.args.cpu) answer.2)) answer.1;
     }

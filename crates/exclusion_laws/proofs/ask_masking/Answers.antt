@@ -17,9 +17,9 @@ determined made sections after own counts ns cpu place v m o a c e =
 pub returns : goal.returns
 returns c =
     let new = c.new-masking in
-    let asked = c.tell-and-ask in
-    let both = counted_on (λ e. e.rollback) (λ e. e.patience.remaining) (λ r. masking_choice r.sections.list) new.result c.args.notices.now asked.new.exclusion asked.ensures.told-so in
+    let asked = c.tell_and_ask in
+    let both = counted_on (λ e. e.rollback) (λ e. e.patience.remaining) (λ r. masking_choice r.sections.list) new.result c.args.notices.now asked.new.exclusion asked.ensures.told_so in
     record {
       determined = determined new.result.rollback.sections.list _ asked.new.exclusion.rollback.sections.list new.result.patience.remaining asked.new.exclusion.patience.remaining c.args.notices.now
-          c.args.cpu c.args.place asked.result new.ensures.made-from-the-table new.ensures.without_patience (ap (λ r. r.sections.list) both.0) both.1 asked.ensures.as-it-answers;
+          c.args.cpu c.args.place asked.result new.ensures.made_from_the_table new.ensures.without_patience (ap (λ r. r.sections.list) both.0) both.1 asked.ensures.as_it_answers;
     }

@@ -4,9 +4,9 @@ use Rattle.model.proofs.call_laws.Goals as goal
 
 pub returns : goal.returns
 returns g c = record {
-  a-refused-call-changes-nothing = refused_stays g.E.Exclusion.told g.E.Exclusion.answers;
-  an-instruction-changes-only-the-structures-of-q = only_q;
-  an-instruction-changes-only-its-own-thread = only_own;
-  a-call-has-an-outcome-over-an-exclusion-that-reacts = λ reacts. some_outcome g.E.Exclusion.told g.E.Exclusion.answers reacts;
-  a-call-has-one-outcome-over-a-determined-exclusion = λ one. one_outcome g.E.Exclusion.told g.E.Exclusion.answers one;
+  a_refused_call_changes_nothing = refused_stays g.E.Exclusion.told g.E.Exclusion.answers;
+  an_instruction_changes_only_the_structures_of_q = only_q;
+  an_instruction_changes_only_its_own_thread = only_own;
+  a_call_has_an_outcome_over_an_exclusion_that_reacts = λ reacts. some_outcome g.E.Exclusion.told g.E.Exclusion.answers reacts;
+  a_call_has_one_outcome_over_a_determined_exclusion = λ one. one_outcome g.E.Exclusion.told g.E.Exclusion.answers one;
 }

@@ -5,10 +5,10 @@ use Rattle.numbers.proofs.spelling_laws.Goals as goal
 
 pub returns : goal.returns
 returns c = record {
-  the-reader-answers-what-is-spelled = λ bytes first ok. reads bytes first ok (number_at bytes first) refl;
-  what-is-written-spells-the-number = written_spells;
-  what-is-written-is-read-back = reads_back_at;
-  every-spelling-is-the-written-one = written_alone;
-  two-spellings-of-a-number-are-equal = one_spelling_alone;
-  a-spelling-stands-for-one-number = one_number;
+  the_reader_answers_what_is_spelled = λ bytes first ok. reads bytes first ok (number_at bytes first) refl;
+  what_is_written_spells_the_number = written_spells;
+  what_is_written_is_read_back = reads_back_at;
+  every_spelling_is_the_written_one = written_alone;
+  two_spellings_of_a_number_are_equal = one_spelling_alone;
+  a_spelling_stands_for_one_number = one_number;
 }

@@ -4,7 +4,7 @@ use Rattle.roundtrip.proofs.format_laws.Goals as goal
 
 pub returns : goal.returns
 returns c = record {
-  a-written-schedule-reads-back = schedule_reads_back;
-  an-accepted-header-is-the-written-one = header_was_written;
-  an-accepted-call-is-the-written-one = call_was_written;
+  a_written_schedule_reads_back = schedule_reads_back;
+  an_accepted_header_is_the_written_one = header_was_written;
+  an_accepted_call_is_the_written_one = call_was_written;
 }

@@ -9,7 +9,7 @@ use Rattle.worked.proofs.worked_examples.Goals as goal
 pub returns : goal.returns
 unfolding spell hear number_at section_of first_inside
 returns c = record {
-  the-worked-examples-hold = record {
+  the_worked_examples_hold = record {
     numbers = record { zero_is = refl; largest_of_one_byte_is = refl; least_of_two_bytes_is = refl; three_hundred_is = refl; longer_is_refused = refl };
     verdicts = record { before_the_start = refl; at_the_start = refl; at_the_last = refl; behind_the_end = refl; rollback_at_the_start = refl; rollback_at_the_last = refl };
     add_settles_on_its_fifth_run = fifth;
@@ -22,5 +22,5 @@ returns c = record {
     by_grace_one_it_passes_after_three = grace_passes;
     two_puts_and_two_takes = ring;
   };
-  a-signal-after-three-runs-sends-to-the-abort-first = interrupted;
+  a_signal_after_three_runs_sends_to_the_abort_first = interrupted;
 }

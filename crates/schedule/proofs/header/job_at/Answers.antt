@@ -4,6 +4,6 @@ use Rattle.schedule.proofs.header.job_at.Goals as goal
 
 pub returns-in-Err : goal.returns-in-Err
 returns-in-Err c = record {
-  defined = ap Err c.by-boot.ensures.placed
-      ∙ refused_job c.args.bytes.now c.in-ok-job.job c.in-ok-job.at c.in-Err.fault c.in-ok-job.ensures.defined c.in-Err.ensures.defined;
+  defined = ap Err c.by_boot.ensures.placed
+      ∙ refused_job c.args.bytes.now c.in_ok-job.job c.in_ok-job.at c.in-Err.fault c.in_ok-job.ensures.defined c.in-Err.ensures.defined;
 }

@@ -9,6 +9,6 @@ returns c =
     let at = c.args.at in
     let whole : at + 160 - at ≡ 160 = omega arith in
     record {
-      defined = ap (λ t. Ok (t, at + 160)) (c.copy-from-slice.ensures.after ∙ ap (λ k. take k (drop at bytes)) whole)
+      defined = ap (λ t. Ok (t, at + 160)) (c.copy_from_slice.ensures.after ∙ ap (λ k. take k (drop at bytes)) whole)
           ∙ sym (ap (λ b. cond b (Err (fault_at EndsInside (length bytes))) (Ok (take 160 (drop at bytes), at + 160))) (le-ltb (length bytes) (at + 160) (omega arith)));
     }

@@ -3,10 +3,10 @@ use Rattle.machine.proofs.machine.Machine.boot.Goals as goal
 
 pub returns : goal.returns
 returns g c =
-    let parts = c.in-ok-core.ensures in
+    let parts = c.in_ok-core.ensures in
     record {
-      does = (parts.booted, parts.told-only-if-booted);
+      does = (parts.booted, parts.told_only_if_booted);
       faithful =
           begins g.E.Exclusion.meaning g.E.Exclusion.told g.E.Exclusion.answers (record { shaped = g.met.E.Exclusion.shaped; obeys = g.met.E.Exclusion.obeys; says = g.met.E.Exclusion.says }) c.args.sizes
-          c.args.signature c.args.table.now c.args.text.now c.args.exclusion _ (parts.booted, parts.told-only-if-booted);
+          c.args.signature c.args.table.now c.args.text.now c.args.exclusion _ (parts.booted, parts.told_only_if_booted);
     }

@@ -6,5 +6,5 @@ returns g c =
     let defined = c.hand.ensures in
     record {
       defined = defined;
-      as-the-ledger-holds = hand_told_so g.E.Exclusion.meaning g.E.Exclusion.told g.E.Exclusion.answers (record { shaped = g.met.E.Exclusion.shaped; obeys = g.met.E.Exclusion.obeys; says = g.met.E.Exclusion.says }) (c.args.self.now.core, c.args.self.now.exclusion) c.args.thread _ defined;
+      as_the_ledger_holds = hand_told_so g.E.Exclusion.meaning g.E.Exclusion.told g.E.Exclusion.answers (record { shaped = g.met.E.Exclusion.shaped; obeys = g.met.E.Exclusion.obeys; says = g.met.E.Exclusion.says }) (c.args.self.now.core, c.args.self.now.exclusion) c.args.thread _ defined;
     }

@@ -4,5 +4,5 @@ use Rattle.machine.specs.Sound.{Sound}
 use Rattle.machine.proofs.Sounds.{performed_sound}
 use Rattle.machine.proofs.machine.Machine.perform_one.Goals as goal
 
-pub invariant-of-self : goal.invariant-of-self
-invariant-of-self g c = (subst Sound (sym (ap (λ (p : Performed). p.core) c.step-ran.ensures)) (performed_sound c.args.self.now.core c.args.cpu c.args.t c.args.self.now.sound c.requires.0), tt)
+pub invariant_of-self : goal.invariant_of-self
+invariant_of-self g c = (subst Sound (sym (ap (λ (p : Performed). p.core) c.step-ran.ensures)) (performed_sound c.args.self.now.core c.args.cpu c.args.t c.args.self.now.sound c.requires.0), tt)

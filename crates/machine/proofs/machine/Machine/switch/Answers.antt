@@ -3,5 +3,5 @@ use Rattle.machine.proofs.machine.Machine.switch.Goals as goal
 
 pub returns : goal.returns
 returns g c =
-    let does = c.switch-one.ensures.does in
+    let does = c.switch_one.ensures.does in
     record { does = does; faithful = stays g.E.Exclusion.meaning g.E.Exclusion.told g.E.Exclusion.answers (record { shaped = g.met.E.Exclusion.shaped; obeys = g.met.E.Exclusion.obeys; says = g.met.E.Exclusion.says }) _ _ _ _ does }
