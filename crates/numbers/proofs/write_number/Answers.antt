@@ -5,14 +5,14 @@ use Rattle.numbers.proofs.write_number.Goals as goal
 pub loop-rest-init : goal.loop-rest-init
 loop-rest-init c = left_start _ _ (omega arith)
 
-pub bounds_out-at : goal.bounds_out-at
-bounds_out-at c = omega (arith, count_room _ _ _ c.loop-rest.invariant.count)
+pub bounds-out-at : goal.bounds-out-at
+bounds-out-at c = omega (arith, count_room _ _ _ c.loop-rest.invariant.count)
 
 pub loop-rest-preserved : goal.loop-rest-preserved
 loop-rest-preserved c = left_more _ _ _ _ _ c.loop-rest.invariant c.loop-rest-test.true
 
-pub bounds_out-at-2 : goal.bounds_out-at-2
-bounds_out-at-2 c = omega (arith, count_room _ _ _ c.loop-rest.invariant.count)
+pub bounds-out-at-2 : goal.bounds-out-at-2
+bounds-out-at-2 c = omega (arith, count_room _ _ _ c.loop-rest.invariant.count)
 
 pub returns : goal.returns
 returns c =
