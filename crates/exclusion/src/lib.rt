@@ -1,5 +1,6 @@
 //! Exclusions: what becomes of a thread that is disturbed inside a restartable section.
 #![tactic(auto)]
+
 pub mod abort;
 pub mod grace;
 pub mod masking;
