@@ -1,5 +1,6 @@
 //! What holds of every exclusion, of the two classic ways together, and of grace 0.
 #![tactic(auto)]
+
 ghost use Rattle.exclusion_laws.specs.Laws.{AgreeOnWhen, masking_after};
 ghost use Rattle.exclusion.specs.Meaning.{NotHeldWithoutPatience, NotOutsideWhenArmed, ToldAll};
 ghost use Rattle.exclusion.specs.Ours.{abort_restarts, rolls_back};

@@ -1,5 +1,6 @@
 //! The model: what every call of the stepping machine does, the ledger, lives, and the claims.
 #![tactic(auto)]
+
 ghost use Rattle.model.specs.Laws.{AgreeingQuestionsTell, NewAgrees, OneOutcome, OnlyItsOwnThread, OnlyTheStructuresOfQ, RefusedChangesNothing, SomeOutcome};
 
 use exclusion::meaning::Exclusion;

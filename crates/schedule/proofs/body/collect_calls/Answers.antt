@@ -9,7 +9,7 @@ loop-at-init c = rw c.requires (none_yet c.args.bytes.now c.args.first)
 pub loop-at-preserved : goal.loop-at-preserved
 loop-at-preserved c =
     let whole = calls_from (length c.args.bytes.now) c.args.bytes.now c.args.first in
-    rw c.in_ok-push.ensures.items
+    rw c.in_ok-push-in-Ok.ensures.items
     (one_more c.args.bytes.now c.loop-at.at _ whole c.loop-at.invariant c.in-Ok.call c.in-Ok.next c.loop-at-test.true c.in-Ok.ensures.goes_on.0 c.in-Ok.ensures.defined)
 
 pub returns-in-Err : goal.returns-in-Err
