@@ -1,6 +1,7 @@
 //! Lists what a schedule says: its job line by line, then its calls, one to a line; or, where it is refused, what can be
 //! read of it and the fault.
 #![tactic(auto)]
+
 use calls::{Call, RawOperation};
 use faults::{Cause, Fault, Layer, Refusal};
 use image::checks::{TABLE_LENGTH, accept_text_length};

@@ -1,5 +1,6 @@
 //! The laws of the schedule format: what is written reads back, and what is read was so written.
 #![tactic(auto)]
+
 ghost use Rattle.roundtrip.specs.Laws.{CallWasWritten, HeaderWasWritten, ScheduleReadsBack};
 
 /// The laws of the format. A schedule that is written from a job and calls reads back as them; a header and a call that are

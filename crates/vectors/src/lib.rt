@@ -1,4 +1,5 @@
 //! Vectors: numbers, images and schedules with the answers that they should get, worked out apart from the code.
 #![tactic(auto)]
+
 #[cfg(test)]
 mod tests;

@@ -1,5 +1,6 @@
 //! The worked examples: one theorem on the definitions of numbers, exclusions and the machine.
 #![tactic(auto)]
+
 ghost use Rattle.worked.specs.Worked.{SignalSendsToTheAbortFirst, WorkedExamples};
 
 /// The worked examples hold of the definitions.
