@@ -1,13 +1,13 @@
 -- A count of one's own beside another meaning.
-use Rattle.std.specs.Prelude.{◌≡◌, ℕ, zero, suc, ◌+◌, ◌-◌, ◌<◌, ◌≤◌, min, max, Bool, true, false, cond, ◌≢◌, ◌⊎◌, List, length, set, replicate, nat_lt, slice_index, slice_set, refl}
-use Rattle.std.proofs.Common.{inl, inr, ⊎_elim, sym, ◌∙◌, ap, arith, lt-ltb, le-ltb, ltb-true, ltb-false, get_or-set_same, get_or-set_other}
+use Rattle.std.specs.Prelude.{◌≡◌, ℕ, zero, suc, ◌-◌, ◌<◌, ◌≤◌, min, max, true, false, cond, ◌≢◌, ◌⊎◌, List, length, replicate, nat_lt, slice_index, slice_set, refl}
+use Rattle.std.proofs.Common.{inl, inr, ⊎_elim, ◌∙◌, ap, arith, lt-ltb, le-ltb, get_or-set_same, get_or-set_other}
 use Rattle.std.proofs.lemmas.List.{get_or_past, set_past}
 use Rattle.std.proofs.lemmas.Bool.{cases_lt, cases_eq}
 use Rattle.exclusion.specs.declared.meaning.Notice.{Notice}
 use Rattle.exclusion.specs.declared.meaning.Notice.TheVariants.{Entered, Stepped, Left}
 use Rattle.exclusion.specs.declared.meaning.Verdict.{Verdict}
-use Rattle.exclusion.specs.declared.meaning.Verdict.TheVariants.{Outside, Held, Back}
-use Rattle.exclusion.specs.Meaning.{Meaning, Shaped, PatienceBecomes, Obeys, Possible, InArmedAlone, Says}
+use Rattle.exclusion.specs.declared.meaning.Verdict.TheVariants.{Held, Back}
+use Rattle.exclusion.specs.Meaning.{Meaning, Shaped, Obeys, Possible, InArmedAlone, Says}
 use Rattle.image.specs.declared.layout.Section.{Section}
 use Rattle.exclusion.specs.Ours.{impatient}
 use Rattle.exclusion.specs.Parts.{patience_at, stepped_down, layered, counted, held_while}

@@ -1,6 +1,6 @@
 -- What an exclusion means: it decides what becomes of a thread that is disturbed inside a restartable section. The thread is
 -- sent back, or the disturber has to wait.
-use Rattle.std.specs.Prelude.{◌≡◌, ℕ, ◌+◌, ◌-◌, ◌<◌, ◌≤◌, ◌⊎◌, List, [], ◌∷◌, ◌≢◌}
+use Rattle.std.specs.Prelude.{◌≡◌, ℕ, ◌-◌, ◌<◌, ◌≤◌, ◌⊎◌, List, [], ◌∷◌, ◌≢◌}
 use Rattle.image.specs.declared.layout.Section.{Section}
 use Rattle.image.specs.Layout.{Inside, address_of}
 use Rattle.exclusion.specs.declared.meaning.Notice.{Notice}

@@ -3,7 +3,7 @@ use Rattle.std.specs.Prelude.{ℕ, ◌-◌, ◌/◌, min, cond, List, Some, None
 use Rattle.image.specs.declared.layout.Section.{Section}
 use Rattle.image.specs.Layout.{inside}
 use Rattle.exclusion.specs.declared.meaning.Verdict.{Verdict}
-use Rattle.exclusion.specs.declared.meaning.Verdict.TheVariants.{Outside, Held, Back}
+use Rattle.exclusion.specs.declared.meaning.Verdict.TheVariants.{Outside, Back}
 use Rattle.exclusion.specs.Meaning.{Meaning}
 use Rattle.exclusion.specs.Parts.{section_at, holding}
 

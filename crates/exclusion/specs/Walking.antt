@@ -1,5 +1,5 @@
 -- The walk over the sections, and what it finds.
-use Rattle.std.specs.Prelude.{◌≡◌, ℕ, zero, suc, ◌+◌, ◌-◌, ◌<◌, ◌≤◌, Bool, true, false, cond, ◌&&◌, ◌⊎◌, List, Some, None, Option, ◌≢◌, nat_le, slice_index_or, refl}
+use Rattle.std.specs.Prelude.{◌≡◌, ℕ, zero, suc, ◌+◌, ◌-◌, ◌<◌, ◌≤◌, Bool, true, false, cond, ◌&&◌, List, Some, None, ◌≢◌, nat_le, slice_index_or, refl}
 use Rattle.std.proofs.Common.{inl, inr, sym, ◌∙◌, ap, arith}
 use Rattle.std.proofs.lemmas.Bool.{leb-true, and_parts}
 use Rattle.image.specs.declared.layout.Section.{Section}
@@ -7,8 +7,8 @@ use Rattle.image.specs.Layout.{Inside, inside}
 use Rattle.image.proofs.Lying.{is_inside, inside_is}
 use Rattle.exclusion.specs.declared.meaning.Verdict.{Verdict}
 use Rattle.exclusion.specs.declared.meaning.Verdict.TheVariants.{Outside, Back}
-use Rattle.exclusion.specs.Meaning.{Meaning, Says, InNoSection, InArmedAlone, no_section}
-use Rattle.exclusion.specs.Parts.{section_at, first_inside, holding}
+use Rattle.exclusion.specs.Meaning.{Says, no_section}
+use Rattle.exclusion.specs.Parts.{section_at, first_inside}
 use Rattle.exclusion.specs.Ours.{impatient, abort_restarts, back_to_start, rolls_back}
 
 pub found : (section : ℕ → Section) (place k d : ℕ) → inside (section d) place ≡ true → first_inside section place (suc k) d ≡ Some (section d)

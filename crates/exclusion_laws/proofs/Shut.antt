@@ -1,10 +1,10 @@
 -- What the meaning shuts out, and when two exclusions agree.
-use Rattle.std.proofs.Common.{◌≡◌, ℕ, ◌<◌, ◌≤◌, ◌⊎◌, List, sym, refl, ap, ◌∙◌, subst₂, inl, inr, ⊎_elim, arith}
+use Rattle.std.proofs.Common.{◌≡◌, ℕ, List, sym, refl, ◌∙◌, subst₂, ⊎_elim, arith}
 use Rattle.std.proofs.lemmas.Bool.{cases_lt}
 use Rattle.image.specs.declared.layout.Section.{Section}
 use Rattle.exclusion.specs.declared.meaning.Verdict.{Verdict}
 use Rattle.exclusion.specs.declared.meaning.Verdict.TheVariants.{Outside, Held, Back}
-use Rattle.exclusion.specs.Meaning.{Meaning, Says, Possible, InNoSection, InArmedAlone, Asked, SameKind, NotOutsideWhenArmed, NotHeldWithoutPatience}
+use Rattle.exclusion.specs.Meaning.{Meaning, Says, SameKind, NotOutsideWhenArmed, NotHeldWithoutPatience}
 use Rattle.exclusion.specs.Ours.{impatient}
 use Rattle.exclusion_laws.specs.Laws.{AgreeOnWhen}
 

@@ -1,14 +1,12 @@
 -- Told one thing after another.
-use Rattle.std.proofs.Common.{◌≡◌, ℕ, ◌+◌, ◌-◌, ◌<◌, ◌≤◌, List, [], ◌∷◌, ◌++◌, length, get_or, take, set, replicate, sym, refl, ap, ◌∙◌, subst, ⊎_elim, arith}
+use Rattle.std.proofs.Common.{◌≡◌, ℕ, ◌+◌, ◌-◌, ◌<◌, ◌≤◌, List, [], ◌∷◌, ◌++◌, length, get_or, take, replicate, sym, refl, ap, ◌∙◌, subst, arith}
 use Rattle.std.proofs.lemmas.List.{take_more, take_all}
-use Rattle.std.proofs.lemmas.Bool.{cases_lt, cases_eq}
-use Rattle.image.specs.declared.layout.Section.{Section}
 use Rattle.exclusion.specs.declared.meaning.Notice.{Notice}
 use Rattle.exclusion.specs.declared.meaning.Notice.TheVariants.{Entered, Stepped, Left}
 use Rattle.exclusion.specs.declared.meaning.Verdict.{Verdict}
 use Rattle.exclusion.specs.declared.meaning.Verdict.TheVariants.{Outside, Held, Back}
 use Rattle.exclusion.specs.Meaning.{ToldAll}
-use Rattle.exclusion.specs.Parts.{patience_at, stepped_down, counted, held_while}
+use Rattle.exclusion.specs.Parts.{patience_at, counted, held_while}
 use Rattle.exclusion.specs.Ours.{grace_choice}
 use Rattle.exclusion_laws.specs.Laws.{counted_all}
 use Rattle.exclusion.specs.Counting.{nothing_set, nothing_in}

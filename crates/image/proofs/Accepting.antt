@@ -1,7 +1,7 @@
 -- An image is accepted exactly if every rule holds, and else refused by the first rule that fails.
-use Rattle.std.proofs.Common.{◌≡◌, ℕ, zero, suc, ◌+◌, ◌-◌, ◌*◌, ◌^◌, ◌<◌, ◌≤◌, Bool, true, false, cond, not, ◌&&◌, eqb, ltb, leb, List, [], ◌∷◌, ◌++◌, length, Ok, Err, Result, sym, refl, ap, ◌∙◌, subst, arith, ltb-true, lt-ltb, eq-eqb}
+use Rattle.std.proofs.Common.{◌≡◌, ℕ, ◌+◌, ◌-◌, ◌^◌, ◌≤◌, Bool, true, false, cond, leb, List, [], ◌∷◌, ◌++◌, length, Ok, Err, Result, sym, refl, ap, ◌∙◌, subst, arith, ltb-true, lt-ltb, eq-eqb}
 use Rattle.std.proofs.ByRecursion.{All-append}
-use Rattle.std.proofs.lemmas.Bool.{leb-true, le-leb, eqb-true, and_parts, and_from, both_ways, not-true, not_from_false, cases_Bool}
+use Rattle.std.proofs.lemmas.Bool.{leb-true, le-leb, eqb-true, and_parts, and_from, both_ways, not-true, not_from_false}
 use Rattle.std.specs.List.{AllByRecursion as All}
 use Rattle.faults.specs.declared.Fault.{Fault}
 use Rattle.image.specs.declared.fields.Sizes.{Sizes}
@@ -10,10 +10,10 @@ use Rattle.image.specs.declared.layout.Section.{Section}
 use Rattle.words.specs.declared.Kind.{Kind}
 use Rattle.words.specs.declared.Kind.TheVariants.{Add, Push, Pop, Put, Take}
 use Rattle.words.specs.Words.{kinds}
-use Rattle.image.specs.Layout.{Inside, inside, word_at, descriptor_of, sections_of}
-use Rattle.image.specs.Checks.{Check, first_failing, between, is_word, has_routine, size_checks, table_check, text_check, descriptor_checks, all_descriptor_checks, image_checks, checked_image}
-use Rattle.image.specs.Accepted.{WellDescribed, Acceptable, AcceptedExactly, FirstOf, FirstThatFails}
-use Rattle.image.proofs.Checking.{ok_no_err, passed, passed_for}
+use Rattle.image.specs.Layout.{Inside, inside, descriptor_of, sections_of}
+use Rattle.image.specs.Checks.{Check, first_failing, between, size_checks, table_check, text_check, descriptor_checks, all_descriptor_checks, image_checks, checked_image}
+use Rattle.image.specs.Accepted.{WellDescribed, Acceptable, AcceptedExactly, FirstThatFails}
+use Rattle.image.proofs.Checking.{ok_no_err, passed}
 use Rattle.image.proofs.Lying.{lies, is_word_lying, routine_stands, standing_routine, is_inside, inside_is}
 
 abbrev Passes : Check → Type 0

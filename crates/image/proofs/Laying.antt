@@ -1,6 +1,6 @@
 -- How the sections of an accepted image lie: word 2 stands only at a start, words 1 and 22 in no section, and the second
 -- words of the sections differ.
-use Rattle.std.proofs.Common.{◌≡◌, ℕ, zero, suc, ◌+◌, ◌-◌, ◌*◌, ◌<◌, ◌≤◌, Bool, true, false, cond, not, ◌&&◌, eqb, ◌⊎◌, List, [], ◌∷◌, length, get_or, drop, Ok, Err, Result, sym, refl, ap, ◌∙◌, subst, ⊎_elim, arith, eq-eqb}
+use Rattle.std.proofs.Common.{◌≡◌, ℕ, zero, suc, ◌+◌, ◌-◌, ◌*◌, ◌<◌, ◌≤◌, Bool, true, cond, not, ◌&&◌, eqb, List, [], ◌∷◌, length, get_or, Ok, Err, Result, sym, refl, ap, ◌∙◌, subst, ⊎_elim, arith, eq-eqb}
 use Rattle.std.proofs.lemmas.Bool.{and_parts, both_ways, not-true, cases_lt}
 use Rattle.faults.specs.declared.Fault.{Fault}
 use Rattle.image.specs.declared.fields.Sizes.{Sizes}
@@ -8,10 +8,9 @@ use Rattle.image.specs.declared.layout.Section.{Section}
 use Rattle.words.specs.declared.Kind.{Kind}
 use Rattle.words.specs.declared.Kind.TheVariants.{Add, Push, Pop, Put, Take}
 use Rattle.words.specs.declared.Word.{Word}
-use Rattle.words.specs.declared.Word.TheVariants.{Enter, Restart}
+use Rattle.words.specs.declared.Word.TheVariants.{Enter}
 use Rattle.words.specs.Words.{code, section_words}
 use Rattle.image.specs.Layout.{LiesAt, Inside, section_of, descriptor_of}
-use Rattle.image.specs.Checks.{checked_image}
 use Rattle.image.specs.Accepted.{Routine, Acceptable, AcceptedExactly, LaidOut, LaidOutIfAccepted}
 
 -- The table of section words, by computing: whether words lack a number.

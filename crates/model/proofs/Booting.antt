@@ -1,13 +1,13 @@
 -- A newly booted machine.
-use Rattle.std.proofs.Common.{◌≡◌, ℕ, zero, suc, ◌+◌, ◌-◌, ◌%◌, ◌<◌, ◌≤◌, Bool, true, false, cond, ◌&&◌, eqb, ltb, leb, List, [], ◌∷◌, length, get_or, replicate, Some, None, sym, refl, ap, ◌∙◌, subst, mod-eq_of_lt, arith, ltb-false, ltb-true, le-ltb, lt-ltb}
+use Rattle.std.proofs.Common.{◌≡◌, ℕ, zero, suc, ◌+◌, ◌%◌, ◌<◌, ◌≤◌, cond, ◌&&◌, ltb, leb, List, [], get_or, replicate, None, sym, refl, ap, ◌∙◌, subst, mod-eq_of_lt, arith, le-ltb, lt-ltb}
 use Rattle.std.proofs.lemmas.Bool.{le-leb, ne_eqb}
 use Rattle.image.specs.declared.fields.Sizes.{Sizes}
 use Rattle.model.specs.declared.state.Cpu.{Cpu}
 use Rattle.model.specs.declared.state.Image.{Image}
 use Rattle.model.specs.declared.state.Thread.{Thread}
-use Rattle.model.specs.State.{no_cpu, no_thread, new_cpu, new_thread, new_core, thread_at, cpu_at, tabulated}
-use Rattle.model.specs.Ledger.{new_ledger, updated}
-use Rattle.model.specs.Claims.{Listed, InRing, StructuresAgree}
+use Rattle.model.specs.State.{no_cpu, no_thread, new_cpu, new_thread, new_core, cpu_at, tabulated}
+use Rattle.model.specs.Ledger.{new_ledger}
+use Rattle.model.specs.Claims.{Listed}
 use Rattle.model.specs.Laws.{NewAgrees}
 
 -- What is repeated holds of each, and past the end.

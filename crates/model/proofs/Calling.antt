@@ -1,8 +1,7 @@
 -- What holds of every call.
-use Rattle.std.proofs.Common.{◌≡◌, ℕ, zero, suc, ◌+◌, ◌-◌, ◌<◌, ◌≤◌, Bool, true, false, eqb, List, [], ◌∷◌, Some, None, Ok, Err, MatchBool, Option, Result, sym, refl, ap, ◌∙◌, subst, ⊎_elim, arith, get_or-set_other}
+use Rattle.std.proofs.Common.{◌≡◌, ℕ, zero, suc, ◌+◌, ◌-◌, ◌<◌, Bool, true, false, eqb, Some, None, Ok, Err, MatchBool, Option, Result, sym, refl, ap, ◌∙◌, subst, ⊎_elim, arith, get_or-set_other}
 use Rattle.std.proofs.lemmas.Bool.{cases_order}
 use Rattle.faults.specs.declared.Fault.{Fault}
-use Rattle.image.specs.Checks.{Check, all_pass}
 use Rattle.calls.specs.declared.Call.{Call}
 use Rattle.calls.specs.declared.Call.TheVariants as call
 use Rattle.exclusion.specs.declared.meaning.Notice.{Notice}
@@ -13,7 +12,7 @@ use Rattle.model.specs.declared.state.Core.{Core}
 use Rattle.model.specs.State.{no_cpu, no_thread, thread_at, cpu_at, top_frame}
 use Rattle.model.specs.Words.{performed}
 use Rattle.model.specs.Calls.{Answered, refused, accepted, ran, advanced, operation_of, cpu_of, after_verdict, with_thread, Disturbs, DisturbsCurrent, Granted, ByChecks, ToldIf, Performs, Runs, none, more, Stopped, ByCurrent, ByOperation, with_frame, with_current, Signals, Step}
-use Rattle.model.specs.Laws.{RefusedChangesNothing, OnlyTheStructuresOfQ, OnlyItsOwnThread, Determined, OneOutcome}
+use Rattle.model.specs.Laws.{RefusedChangesNothing, OnlyTheStructuresOfQ, OnlyItsOwnThread, Determined}
 
 -- Answers that differ.
 accepted_refused : {P : Type 0} {f : Fault} → refused f ≡ accepted → P

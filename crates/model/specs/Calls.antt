@@ -1,6 +1,6 @@
 -- What every call does, for every operand: a relation over the machine and its exclusion before the call, the call, its
 -- answer, and both after it.
-use Rattle.std.specs.Prelude.{◌≡◌, ℕ, zero, suc, ◌+◌, ◌-◌, ◌≤◌, Bool, true, false, cond, not, ◌&&◌, ◌||◌, List, [], ◌∷◌, ◌++◌, length, replicate, is_some, Some, None, Ok, Err, MatchBool, Option, Result, ◌==◌, nat_lt}
+use Rattle.std.specs.Prelude.{◌≡◌, ℕ, suc, ◌-◌, ◌≤◌, Bool, false, cond, not, ◌&&◌, List, [], ◌∷◌, ◌++◌, length, replicate, is_some, Some, None, Ok, Err, MatchBool, Option, Result, ◌==◌, nat_lt}
 use Rattle.faults.specs.declared.Fault.{Fault}
 use Rattle.faults.specs.declared.Refusal.{Refusal}
 use Rattle.faults.specs.declared.Refusal.TheVariants.{OtherSections, NoCpu, NoThread, NoOperation, Busy, StackFull, Current, Idle, NoWork, Held}
@@ -23,14 +23,13 @@ use Rattle.exclusion.specs.Meaning.{Meaning, ToldAll}
 use Rattle.exclusion.specs.Parts.{section_at}
 use Rattle.model.specs.declared.state.Operation.{Operation}
 use Rattle.model.specs.declared.state.Operation.TheVariants.{Add, Push, Pop, Put, Take}
-use Rattle.model.specs.declared.state.Frame.{Frame}
 use Rattle.model.specs.declared.state.Thread.{Thread}
 use Rattle.model.specs.declared.state.Cpu.{Cpu}
 use Rattle.model.specs.declared.state.Image.{Image}
 use Rattle.model.specs.declared.state.Core.{Core}
 use Rattle.model.specs.declared.state.Settling.{Settling}
-use Rattle.model.specs.State.{no_cpu, cpu_current, thread_at, cpu_at, put_thread, put_cpu, top_frame, with_top, pushed, begun, new_core}
-use Rattle.model.specs.Words.{Performed, performed}
+use Rattle.model.specs.State.{cpu_current, thread_at, cpu_at, put_thread, put_cpu, top_frame, with_top, pushed, begun, new_core}
+use Rattle.model.specs.Words.{performed}
 
 -- The answer of a call: refused with a fault; accepted, of a call that answers nothing else; the settling of a run, or none;
 -- of an advance the number of instructions run and the settling, or none.

@@ -1,7 +1,6 @@
 -- The claims: what holds of a machine with any past, over any exclusion that has the meaning.
-use Rattle.std.specs.Prelude.{◌≡◌, ℕ, zero, suc, ◌+◌, ◌-◌, ◌%◌, ◌<◌, ◌≤◌, Bool, true, false, cond, ◌&&◌, ◌⊎◌, List, [], ◌∷◌, ◌++◌, map, reverse, length, take, replicate, is_some, Some, None, Option, ◌==◌, ◌≢◌, slice_index, slice_index_or}
+use Rattle.std.specs.Prelude.{◌≡◌, ℕ, zero, suc, ◌+◌, ◌%◌, ◌<◌, ◌≤◌, Bool, true, false, cond, ◌⊎◌, List, [], ◌∷◌, ◌++◌, map, reverse, length, take, replicate, is_some, Some, None, Option, ◌==◌, ◌≢◌, slice_index, slice_index_or}
 use Rattle.std.specs.List.{AllByRecursion as All}
-use Rattle.faults.specs.declared.Fault.{Fault}
 use Rattle.faults.specs.declared.Refusal.TheVariants.{Held}
 use Rattle.faults.specs.Numbering.{fault_at, number_of}
 use Rattle.image.specs.declared.fields.Sizes.{Sizes}
@@ -16,9 +15,9 @@ use Rattle.model.specs.declared.state.Thread.{Thread}
 use Rattle.model.specs.declared.state.Cpu.{Cpu}
 use Rattle.model.specs.declared.state.Core.{Core}
 use Rattle.model.specs.declared.state.Settling.{Settling}
-use Rattle.model.specs.State.{thread_at, cpu_at, top_frame, tabulated}
+use Rattle.model.specs.State.{thread_at, cpu_at, top_frame}
 use Rattle.model.specs.Calls.{Answered, refused, accepted, ran, advanced, operation_of, Step}
-use Rattle.model.specs.Ledger.{Ledger, Waiting, Fed, Fate, was_refused, was_accepted, has_settled, fate_of}
+use Rattle.model.specs.Ledger.{Ledger, Waiting, Fate, was_refused, was_accepted, has_settled, fate_of}
 use Rattle.model.specs.Life.{Event, fed, ledger, Life}
 
 -- An exclusion has the meaning: what it is told and what it answers is as the meaning says.

@@ -1,5 +1,5 @@
 -- Laws that show the definitions sane.
-use Rattle.std.specs.Prelude.{◌≡◌, ℕ, ◌<◌, ◌≤◌, List, ◌≢◌}
+use Rattle.std.specs.Prelude.{◌≡◌, ℕ, ◌<◌, ◌≤◌, ◌≢◌}
 use Rattle.faults.specs.declared.Fault.{Fault}
 use Rattle.calls.specs.declared.Call.{Call}
 use Rattle.exclusion.specs.declared.meaning.Notice.{Notice}

@@ -1,9 +1,8 @@
 -- The ledger: a second description of the structures, which does each operation whole and alone. It knows nothing of words,
 -- places, registers, frames or sections; it is fed each call with its operands and what became of it, and never looks at the
 -- machine.
-use Rattle.std.specs.Prelude.{ℕ, zero, suc, ◌+◌, ◌%◌, ◌^◌, Bool, cond, List, [], ◌∷◌, ◌++◌, length, Some, None, Option, ◌==◌, nat_le}
+use Rattle.std.specs.Prelude.{ℕ, suc, ◌+◌, ◌%◌, ◌^◌, cond, List, [], ◌∷◌, ◌++◌, length, Some, None, Option, ◌==◌, nat_le}
 use Rattle.image.specs.declared.fields.Sizes.{Sizes}
-use Rattle.calls.specs.declared.RawOperation.{RawOperation}
 use Rattle.calls.specs.declared.Call.{Call}
 use Rattle.calls.specs.declared.Call.TheVariants as call
 use Rattle.model.specs.declared.state.Operation.{Operation}

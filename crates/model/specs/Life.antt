@@ -1,5 +1,5 @@
 -- Lives: all calls on a machine since a boot that was accepted, refused ones too, each with its answer.
-use Rattle.std.specs.Prelude.{ℕ, suc, List, [], ◌∷◌, ◌++◌, length, Ok}
+use Rattle.std.specs.Prelude.{ℕ, suc, List, [], ◌∷◌, length, Ok}
 use Rattle.image.specs.declared.fields.Sizes.{Sizes}
 use Rattle.calls.specs.declared.Call.{Call}
 use Rattle.exclusion.specs.declared.meaning.Notice.{Notice}

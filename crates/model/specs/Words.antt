@@ -1,5 +1,5 @@
 -- What one instruction does. Each word is one clause.
-use Rattle.std.specs.Prelude.{ℕ, ◌+◌, ◌-◌, ◌%◌, ◌^◌, cond, List, [], ◌∷◌, take, is_some, Some, None, Option, ◌==◌, slice_index, slice_set}
+use Rattle.std.specs.Prelude.{ℕ, ◌+◌, ◌%◌, ◌^◌, cond, List, take, Some, None, Option, ◌==◌, slice_index, slice_set}
 use Rattle.image.specs.Layout.{word_at}
 use Rattle.words.specs.declared.Word.{Word}
 use Rattle.words.specs.declared.Word.TheVariants.{Enter, ReadCpu, LoadCounter, AddAmount, StoreCounter, NeedNode, NeedEmptyHand, LoadListHead, LinkNode, PushNode, NeedListed, LoadNext, PopNode, LoadTail, LoadRingHead, NeedRoom, StorePacket, AdvanceTail, NeedPacket, LoadPacket, AdvanceRingHead, Restart}
@@ -7,7 +7,6 @@ use Rattle.exclusion.specs.declared.meaning.Notice.{Notice}
 use Rattle.exclusion.specs.declared.meaning.Notice.TheVariants.{Entered, Stepped, Left}
 use Rattle.model.specs.declared.state.Operation.{Operation}
 use Rattle.model.specs.declared.state.Operation.TheVariants.{Add, Push, Pop, Put, Take}
-use Rattle.model.specs.declared.state.Frame.{Frame}
 use Rattle.model.specs.declared.state.Thread.{Thread}
 use Rattle.model.specs.declared.state.Cpu.{Cpu}
 use Rattle.model.specs.declared.state.Core.{Core}

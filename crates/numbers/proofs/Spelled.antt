@@ -1,13 +1,11 @@
 -- The written spelling is the one spelling of its number, and what the reader hears is what the spellings say.
-use Rattle.std.proofs.Common.{◌≡◌, ℕ, zero, suc, ◌+◌, ◌-◌, ◌*◌, ◌/◌, ◌%◌, ◌^◌, ◌<◌, ◌≤◌, Bool, true, false, cond, ltb, ◌⊎◌, List, [], ◌∷◌, ◌++◌, length, take, drop, Ok, Err, Result, sym, refl, ap, ◌∙◌, subst, inl, inr, arith, ltb-false, ltb-true, le-ltb, lt-ltb}
+use Rattle.std.proofs.Common.{◌≡◌, ℕ, zero, suc, ◌+◌, ◌/◌, ◌%◌, ◌^◌, ◌<◌, ◌≤◌, Bool, true, false, cond, ltb, List, [], ◌∷◌, ◌++◌, length, drop, Ok, Result, sym, refl, ap, ◌∙◌, inl, inr, arith, ltb-false, ltb-true, lt-ltb}
 use native.Mathlib.Nat.{pow-succ'}
 use Rattle.std.proofs.lemmas.Nat.{div_below}
 use Rattle.std.proofs.lemmas.List.{take-append-drop, drop_at, drop-drop}
 use Rattle.faults.specs.declared.Fault.{Fault}
-use Rattle.faults.specs.declared.Refusal.TheVariants.{EndsInside, WrongSpelling}
-use Rattle.faults.specs.Numbering.{fault_at}
 use Rattle.numbers.specs.Spelling.{Bytes, Grouped, value_of, Spells, spell, spelling}
-use Rattle.numbers.specs.Reading.{BreakOff, BeginWithNumber, Reads, Heard, number, breaks, wrong, hear, told, number_at}
+use Rattle.numbers.specs.Reading.{BreakOff, Reads, Heard, number, breaks, wrong, hear, told, number_at}
 use Rattle.numbers.specs.Laws.{WrittenSpells, ReadsBack, WrittenAlone, OneSpelling, OneNumber}
 use Rattle.numbers.proofs.Write.{spell_last, spell_more}
 use Rattle.numbers.proofs.Heard.{reads_back, one_spelling, breaks_off, front_breaks}

@@ -1,5 +1,5 @@
 -- The laws of seven-bit numbers.
-use Rattle.std.specs.Prelude.{◌≡◌, ℕ, ◌+◌, ◌^◌, ◌<◌, List, [], ◌∷◌, ◌++◌, length, Ok, Err}
+use Rattle.std.specs.Prelude.{◌≡◌, ℕ, ◌+◌, ◌^◌, ◌<◌, List, ◌++◌, length, Ok}
 use Rattle.numbers.specs.Spelling.{Bytes, Spells, spelling}
 use Rattle.numbers.specs.Reading.{Reads, number_at}
 

@@ -1,8 +1,8 @@
 -- What is written of a job and of calls reads back as them.
-use Rattle.std.proofs.Common.{◌≡◌, ℕ, zero, suc, ◌+◌, ◌-◌, ◌^◌, ◌<◌, ◌≤◌, true, false, cond, eqb, ltb, List, [], ◌∷◌, ◌++◌, length, get_or, take, drop, None, Ok, Err, sym, refl, ap, ◌∙◌, subst, append_assoc, append-nil, add-zero, add_assoc, arith, length-append, length-drop, length-take, le-ltb, lt-ltb}
+use Rattle.std.proofs.Common.{◌≡◌, ℕ, zero, suc, ◌+◌, ◌^◌, ◌<◌, ◌≤◌, cond, ltb, List, [], ◌∷◌, ◌++◌, length, get_or, take, drop, None, Ok, Err, sym, refl, ap, ◌∙◌, append_assoc, add-zero, arith, length-append, length-drop, length-take, le-ltb, lt-ltb}
 use Rattle.std.proofs.lemmas.List.{take_at, drop_at, get_or-drop}
 use Rattle.std.specs.List.{AllByRecursion as All}
-use Rattle.faults.specs.declared.Refusal.TheVariants.{EndsInside, UnknownLetter}
+use Rattle.faults.specs.declared.Refusal.TheVariants.{EndsInside}
 use Rattle.faults.specs.Numbering.{fault_at}
 use Rattle.numbers.specs.Spelling.{spelling}
 use Rattle.numbers.specs.Reading.{number_at}
@@ -14,7 +14,7 @@ use Rattle.schedule.specs.declared.job.ExclusionName.{ExclusionName}
 use Rattle.schedule.specs.declared.job.ExclusionName.TheVariants.{Abort, Rollback, Masking}
 use Rattle.schedule.specs.declared.job.Job.{Job}
 use Rattle.schedule.specs.Format.{written_numbers, exclusion_number, words_of, padded, written_job, written_operation, written_call, written_calls, written_schedule, Within, TellableJob, TellableOperation, Tellable}
-use Rattle.schedule.specs.Reading.{Read, and_then, field_at, table_at, words_at, padded_words_at, word_count_at, exclusion_of, parts_at, header_at, operation_at, call_by, call_at, calls_from, calls_after, with_call}
+use Rattle.schedule.specs.Reading.{Read, and_then, field_at, table_at, words_at, padded_words_at, exclusion_of, parts_at, header_at, operation_at, call_by, call_at, calls_from, calls_after, with_call}
 use Rattle.roundtrip.specs.Laws.{placed, ScheduleReadsBack}
 use Rattle.roundtrip.proofs.Parsing.{ReadsThere, then_ok, behind_it, number_there, field_there, count_there}
 use Rattle.schedule.proofs.Calling.{no_call, some_call}

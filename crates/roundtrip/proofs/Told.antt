@@ -1,10 +1,9 @@
 -- What is read of a job and of a call stood there as it is written.
-use Rattle.std.proofs.Common.{◌≡◌, ℕ, zero, suc, ◌+◌, ◌-◌, ◌^◌, ◌<◌, ◌≤◌, Bool, true, false, cond, eqb, ltb, List, [], ◌∷◌, ◌++◌, length, get_or, take, drop, replicate, Ok, Err, Result, sym, refl, ap, ◌∙◌, subst, append_assoc, append-nil, add-zero, arith, length-append, length-drop, take-append-drop, length-take, ltb-false, ltb-true}
+use Rattle.std.proofs.Common.{◌≡◌, ℕ, zero, suc, ◌+◌, ◌-◌, ◌^◌, ◌<◌, ◌≤◌, Bool, true, false, cond, eqb, ltb, List, [], ◌∷◌, ◌++◌, length, get_or, take, drop, replicate, Ok, Err, sym, refl, ap, ◌∙◌, subst, add-zero, arith, length-append, length-drop, take-append-drop, length-take, ltb-false, ltb-true}
 use lib.ListN.{length-replicate}
 use Rattle.std.proofs.lemmas.List.{drop-drop, drop_more, take_at}
 use Rattle.std.proofs.lemmas.Bool.{eqb-true}
 use Rattle.std.specs.List.{AllByRecursion as All}
-use Rattle.faults.specs.declared.Fault.{Fault}
 use Rattle.faults.specs.declared.Refusal.TheVariants.{EndsInside, UnknownLetter}
 use Rattle.faults.specs.Numbering.{fault_at}
 use Rattle.numbers.specs.Spelling.{Bytes, spelling}
@@ -14,13 +13,12 @@ use Rattle.image.specs.declared.fields.Sizes.{Sizes}
 use Rattle.calls.specs.declared.RawOperation.{RawOperation}
 use Rattle.calls.specs.declared.Call.{Call}
 use Rattle.calls.specs.declared.Call.TheVariants.{Enlist, Run, Advance, Switch, Idle, Signal}
-use Rattle.schedule.specs.declared.job.ExclusionName.{ExclusionName}
 use Rattle.schedule.specs.declared.job.Job.{Job}
 use Rattle.schedule.specs.declared.job.Text.{Text}
 use Rattle.schedule.specs.Format.{written_numbers, exclusion_number, words_of, padded, written_job, written_operation, written_call, Within, TellableJob, TellableOperation, Tellable}
-use Rattle.schedule.specs.Reading.{Read, and_then, field_at, sizes_at, table_at, words_at, padded_words_at, word_count_at, text_at, exclusion_of, parts_at, header_at, operation_at, call_by, call_at}
+use Rattle.schedule.specs.Reading.{Read, and_then, field_at, sizes_at, table_at, words_at, padded_words_at, word_count_at, text_at, exclusion_of, parts_at, operation_at, call_by, call_at}
 use Rattle.roundtrip.specs.Laws.{HeaderWasWritten, CallWasWritten}
-use Rattle.roundtrip.proofs.Parsing.{Stands, Split, split, err_no_ok, same_value, same_place, number_stood, field_stood, count_stood, stands_then}
+use Rattle.roundtrip.proofs.Parsing.{Stands, split, err_no_ok, same_value, same_place, number_stood, field_stood, count_stood, stands_then}
 
 -- Words.
 pub record WordsStood (bytes : List ℕ) (k at : ℕ) (words : List ℕ) (next : ℕ) : Type 0 where

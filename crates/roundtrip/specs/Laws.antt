@@ -1,12 +1,12 @@
 -- The laws of schedules: what is written reads back, and what is read was so written.
-use Rattle.std.specs.Prelude.{◌≡◌, ℕ, ◌+◌, ◌≤◌, List, [], ◌∷◌, ◌++◌, length, drop, None, Ok, Err}
+use Rattle.std.specs.Prelude.{◌≡◌, ℕ, ◌+◌, ◌≤◌, List, [], ◌∷◌, ◌++◌, length, drop, None, Ok}
 use Rattle.std.specs.List.{AllByRecursion as All}
 use Rattle.numbers.specs.Spelling.{Bytes}
 use Rattle.calls.specs.declared.Call.{Call}
 use Rattle.schedule.specs.declared.body.CallAt.{CallAt}
 use Rattle.schedule.specs.declared.job.Job.{Job}
-use Rattle.schedule.specs.Format.{written_job, written_call, written_calls, written_schedule, TellableJob, Tellable}
-use Rattle.schedule.specs.Reading.{CallsAsRead, header_at, call_at, calls_from}
+use Rattle.schedule.specs.Format.{written_job, written_call, written_schedule, TellableJob, Tellable}
+use Rattle.schedule.specs.Reading.{header_at, call_at, calls_from}
 
 -- Calls with their offsets, the first at an offset.
 abbrev pub placed : ℕ → List Call → List CallAt

@@ -1,9 +1,9 @@
 -- Calls that are read one by one to the end.
-use Rattle.std.proofs.Common.{◌≡◌, ℕ, zero, suc, ◌+◌, ◌-◌, ◌<◌, ◌≤◌, Bool, true, false, cond, ltb, List, [], ◌∷◌, ◌++◌, length, Some, None, Ok, Err, Option, sym, refl, ap, ◌∙◌, append_assoc, append-nil, arith, le-ltb, lt-ltb}
+use Rattle.std.proofs.Common.{◌≡◌, ℕ, zero, suc, ◌+◌, ◌<◌, ◌≤◌, cond, List, [], ◌∷◌, ◌++◌, length, Some, None, Ok, Err, sym, refl, ap, ◌∙◌, append_assoc, append-nil, arith, le-ltb, lt-ltb}
 use Rattle.faults.specs.declared.Fault.{Fault}
 use Rattle.calls.specs.declared.Call.{Call}
 use Rattle.schedule.specs.declared.body.CallAt.{CallAt}
-use Rattle.schedule.specs.Reading.{CallsAsRead, call_at, with_call, calls_after, calls_from}
+use Rattle.schedule.specs.Reading.{CallsAsRead, call_at, calls_after, calls_from}
 
 pub no_call : (k : ℕ) (bytes : List ℕ) (at : ℕ) → length bytes ≤ at → calls_from k bytes at ≡ record { calls = []; fault = None }
 unfolding calls_from

@@ -1,5 +1,5 @@
 -- The words of a text, read one by one.
-use Rattle.std.proofs.Common.{◌≡◌, ℕ, zero, suc, ◌+◌, ◌-◌, ◌<◌, ◌≤◌, List, [], ◌∷◌, ◌++◌, length, set, replicate, Ok, Err, Result, sym, refl, ap, ◌∙◌, append_assoc, append-nil, arith, length-append}
+use Rattle.std.proofs.Common.{◌≡◌, ℕ, zero, suc, ◌+◌, ◌-◌, ◌<◌, ◌≤◌, List, [], ◌∷◌, ◌++◌, length, set, replicate, Ok, Err, sym, refl, ap, ◌∙◌, append_assoc, append-nil, arith, length-append}
 use Rattle.faults.specs.declared.Fault.{Fault}
 use Rattle.image.specs.declared.fields.Field.TheVariants.{TextWord}
 use Rattle.schedule.specs.Format.{padded}

@@ -1,10 +1,9 @@
 -- What bytes a job and its calls are written as.
-use Rattle.std.specs.Prelude.{◌≡◌, ℕ, ◌+◌, ◌-◌, ◌^◌, ◌<◌, ◌≤◌, List, [], ◌∷◌, ◌++◌, length, take, replicate}
+use Rattle.std.specs.Prelude.{◌≡◌, ℕ, ◌-◌, ◌^◌, ◌<◌, ◌≤◌, List, [], ◌∷◌, ◌++◌, length, take, replicate}
 use Rattle.std.specs.List.{AllByRecursion as All}
 use Rattle.numbers.specs.Spelling.{spelling}
 use Rattle.image.specs.declared.fields.Field.{Field}
 use Rattle.image.specs.declared.fields.Field.TheVariants.{Cpus, Threads, Nodes, Packets, Counters}
-use Rattle.image.specs.declared.fields.Sizes.{Sizes}
 use Rattle.image.specs.Checks.{least, largest}
 use Rattle.calls.specs.declared.RawOperation.{RawOperation}
 use Rattle.calls.specs.declared.Call.{Call}

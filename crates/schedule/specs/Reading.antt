@@ -1,5 +1,5 @@
 -- What a reader answers of any bytes, part by part.
-use Rattle.std.specs.Prelude.{◌≡◌, ℕ, zero, suc, ◌+◌, ◌-◌, cond, List, [], ◌∷◌, ◌++◌, length, take, drop, Some, None, Ok, Err, Option, Result, ◌==◌, nat_lt, slice_index}
+use Rattle.std.specs.Prelude.{ℕ, zero, suc, ◌+◌, cond, List, [], ◌∷◌, length, take, drop, Some, None, Ok, Err, Option, Result, ◌==◌, nat_lt, slice_index}
 use Rattle.faults.specs.declared.Fault.{Fault}
 use Rattle.faults.specs.declared.Refusal.TheVariants.{EndsInside, UnknownLetter}
 use Rattle.faults.specs.Numbering.{fault_at, boot_fault}
@@ -7,7 +7,6 @@ use Rattle.numbers.specs.Reading.{number_at}
 use Rattle.image.specs.declared.fields.Field.{Field}
 use Rattle.image.specs.declared.fields.Field.TheVariants.{Exclusion, Grace, Cpus, Threads, Nodes, Packets, Counters, Signature, TextWord}
 use Rattle.image.specs.declared.fields.Sizes.{Sizes}
-use Rattle.image.specs.declared.layout.Section.{Section}
 use Rattle.image.specs.Checks.{first_failing, field_check, text_check, checked_image}
 use Rattle.calls.specs.declared.RawOperation.{RawOperation}
 use Rattle.calls.specs.declared.Call.{Call}

@@ -1,5 +1,5 @@
 -- The words of a text by their numbers, and the operations with the words of their sections.
-use Rattle.std.specs.Prelude.{ℕ, ◌-◌, ◌*◌, cond, List, [], ◌∷◌, Some, None, Option, ◌==◌}
+use Rattle.std.specs.Prelude.{ℕ, cond, List, [], ◌∷◌, Some, None, Option, ◌==◌}
 use Rattle.words.specs.declared.Kind.{Kind}
 use Rattle.words.specs.declared.Kind.TheVariants.{Add, Push, Pop, Put, Take}
 use Rattle.words.specs.declared.Word.{Word}

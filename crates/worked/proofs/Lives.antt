@@ -1,12 +1,9 @@
 -- The lives of the worked examples, event by event. Each step holds by computing.
-use Rattle.std.proofs.Common.{◌≡◌, ℕ, List, [], ◌∷◌, replicate, Some, None, Option, refl}
+use Rattle.std.proofs.Common.{ℕ, List, [], ◌∷◌, replicate, Some, None, refl}
 use Rattle.image.specs.Layout.{section_of, descriptor_of}
 use Rattle.image.specs.Checks.{has_words, has_routine, all_descriptor_checks}
-use Rattle.exclusion.specs.declared.meaning.Notice.{Notice}
-use Rattle.exclusion.specs.declared.meaning.Verdict.{Verdict}
-use Rattle.exclusion.specs.declared.meaning.Verdict.TheVariants.{Outside, Held, Back}
-use Rattle.exclusion.specs.Meaning.{Meaning}
-use Rattle.exclusion.specs.Parts.{first_inside, layered}
+use Rattle.exclusion.specs.declared.meaning.Verdict.TheVariants.{Held, Back}
+use Rattle.exclusion.specs.Parts.{first_inside}
 use Rattle.exclusion.specs.Ours.{impatient}
 use Rattle.model.specs.declared.state.Core.{Core}
 use Rattle.model.specs.declared.state.Operation.{Operation}
@@ -21,7 +18,7 @@ use Rattle.worked.specs.Worked.{Abort, Rollback, Masking, GraceOne, settled, run
 use Rattle.calls.specs.declared.Call.TheVariants as call
 use Rattle.model.specs.declared.state.Answer.TheVariants.{Done, Got, Empty, Full}
 use Rattle.model.specs.Calls.{accepted}
-use Rattle.worked.specs.Worked.{sample_text, sample_table, sample_signature, sample_sizes, sample_sections, told_nothing, told_masking, told_grace, answers_abort, answers_rollback, answers_masking, answers_grace, WorkedExamples}
+use Rattle.worked.specs.Worked.{sample_text, sample_table, sample_signature, sample_sizes, sample_sections, told_nothing, answers_abort}
 
 -- The machine after each kind of event.
 abbrev booted_machine : Core

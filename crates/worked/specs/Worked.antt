@@ -1,5 +1,5 @@
 -- The worked examples, which hold the definitions to something outside them.
-use Rattle.std.specs.Prelude.{◌≡◌, ℕ, zero, suc, List, [], ◌∷◌, Some, None, Ok, Err, slice_index_or}
+use Rattle.std.specs.Prelude.{◌≡◌, ℕ, zero, suc, List, [], ◌∷◌, Some, None, Err, slice_index_or}
 use Rattle.faults.specs.declared.Refusal.{Refusal}
 use Rattle.faults.specs.declared.Refusal.TheVariants.{WrongSpelling}
 use Rattle.faults.specs.Numbering.{fault_at}
@@ -13,7 +13,7 @@ use Rattle.calls.specs.declared.Call.{Call}
 use Rattle.calls.specs.declared.Call.TheVariants as call
 use Rattle.exclusion.specs.declared.meaning.Notice.{Notice}
 use Rattle.exclusion.specs.declared.meaning.Verdict.{Verdict}
-use Rattle.exclusion.specs.declared.meaning.Verdict.TheVariants.{Outside, Held, Back}
+use Rattle.exclusion.specs.declared.meaning.Verdict.TheVariants.{Outside, Back}
 use Rattle.exclusion.specs.Meaning.{Meaning}
 use Rattle.exclusion.specs.Parts.{patience_at, counted, layered, held_while}
 use Rattle.exclusion.specs.Ours.{impatient, abort_restarts, rolls_back, masking_choice, grace_choice}

@@ -1,7 +1,6 @@
-use Rattle.std.proofs.Common.{◌≡◌, sym, ap, ◌∙◌, subst}
+use Rattle.std.proofs.Common.{◌≡◌, ap, ◌∙◌}
 use Rattle.image.specs.Layout.{sections_of}
-use Rattle.exclusion.specs.Ours.{abort_restarts, rolls_back, impatient}
-use Rattle.exclusion.specs.Meaning.{Says}
+use Rattle.exclusion.specs.Ours.{abort_restarts, rolls_back}
 use Rattle.exclusion_laws.proofs.Told.{unmoved}
 use Rattle.exclusion_laws.proofs.Shut.{agree}
 use Rattle.exclusion.specs.Walking.{abort_says, rollback_says}

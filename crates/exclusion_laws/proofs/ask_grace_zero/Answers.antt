@@ -1,6 +1,5 @@
-use Rattle.std.proofs.Common.{◌≡◌, sym, ap, ◌∙◌, subst}
+use Rattle.std.proofs.Common.{sym, subst}
 use Rattle.exclusion.specs.Meaning.{ToldAll}
-use Rattle.exclusion.specs.Parts.{patience_at}
 use Rattle.exclusion_laws.proofs.Told.{grace_zero, fresh, no_wait}
 use Rattle.exclusion_laws.proofs.ask_grace_zero.Goals as goal
 

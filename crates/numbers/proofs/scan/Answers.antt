@@ -1,5 +1,5 @@
-use Rattle.std.proofs.Common.{◌≡◌, ◌+◌, ◌-◌, ◌<◌, ◌≤◌, length, get_or, Err, sym, ap, ◌∙◌, ⊎_elim, arith, rules}
-use Rattle.numbers.proofs.Read.{Here, got, start, broken, above, zeroed, ended, next, shifted}
+use Rattle.std.proofs.Common.{◌<◌, Err, sym, ap, ◌∙◌, arith, rules}
+use Rattle.numbers.proofs.Read.{start, broken, above, zeroed, ended, next, shifted}
 use Rattle.numbers.proofs.scan.Goals as goal
 
 pub loop-byte-init : goal.loop-byte-init

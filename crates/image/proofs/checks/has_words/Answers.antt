@@ -1,7 +1,6 @@
-use Rattle.std.proofs.Common.{◌+◌, ◌&&◌, drop, sym, ap, ◌∙◌, arith}
-use Rattle.words.specs.Words.{code}
+use Rattle.std.proofs.Common.{sym, ap, ◌∙◌, arith}
 use Rattle.image.specs.Layout.{word_at}
-use Rattle.image.specs.Checks.{is_word, has_words}
+use Rattle.image.specs.Checks.{is_word}
 use Rattle.image.proofs.Standing.{has_words_more, has_words_all}
 use Rattle.image.proofs.checks.has_words.Goals as goal
 

@@ -1,6 +1,6 @@
 use Rattle.std.proofs.Common.{length}
 use Rattle.schedule.specs.Reading.{calls_from}
-use Rattle.schedule.proofs.Calling.{SoFar, none_yet, one_more, stops, all_read}
+use Rattle.schedule.proofs.Calling.{none_yet, one_more, stops, all_read}
 use Rattle.schedule.proofs.body.collect_calls.Goals as goal
 
 pub loop-at-init : goal.loop-at-init

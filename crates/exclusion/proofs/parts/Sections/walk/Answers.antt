@@ -1,4 +1,4 @@
-use Rattle.std.proofs.Common.{◌≡◌, true, false, Some, sym, refl, ap, ◌∙◌, arith}
+use Rattle.std.proofs.Common.{◌≡◌, true, false, Some, sym, refl, ap, ◌∙◌}
 use Rattle.image.specs.Layout.{inside}
 use Rattle.exclusion.specs.Parts.{section_at}
 use Rattle.exclusion.specs.Walking.{walk_on, walk_found, walk_ended}
