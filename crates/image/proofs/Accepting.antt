@@ -2,7 +2,7 @@
 use Rattle.std.proofs.Common.{◌≡◌, ℕ, ◌+◌, ◌-◌, ◌^◌, ◌≤◌, Bool, true, false, cond, leb, List, [], ◌∷◌, ◌++◌, length, Ok, Err, Result, sym, refl, ap, ◌∙◌, subst, arith, ltb-true, lt-ltb, eq-eqb}
 use Rattle.std.proofs.ByRecursion.{All-append}
 use Rattle.std.proofs.lemmas.Bool.{leb-true, le-leb, eqb-true, and_parts, and_from, both_ways, not-true, not_from_false}
-use Rattle.std.specs.List.{AllByRecursion as All}
+use Rattle.std.specs.List.{AllByRecursion}
 use Rattle.faults.specs.declared.Fault.{Fault}
 use Rattle.image.specs.declared.fields.Sizes.{Sizes}
 use Rattle.image.specs.declared.layout.Descriptor.{Descriptor}
@@ -38,36 +38,36 @@ first_that_fails {X} x (c ∷ cs) = go c.passes refl (first_failing x cs) (first
     go false e r all = record { before = []; failing = c; after = cs; in_order = refl; all_before_pass = tt; it_fails = e; is_its_fault = refl }
 
 -- All pass exactly if what was asked for is the answer.
-pub all_passed : {X : Type 0} (x y : X) (checks : List Check) → first_failing x checks ≡ Ok y → All Passes checks
+pub all_passed : {X : Type 0} (x y : X) (checks : List Check) → first_failing x checks ≡ Ok y → AllByRecursion Passes checks
 all_passed x y checks e = subst (FirstThatFails checks) e (first_that_fails x checks)
 
-pub passing : {X : Type 0} (x : X) (checks : List Check) → All Passes checks → first_failing x checks ≡ Ok x
+pub passing : {X : Type 0} (x : X) (checks : List Check) → AllByRecursion Passes checks → first_failing x checks ≡ Ok x
 passing x [] all = refl
 passing x (c ∷ cs) all = ap (λ t. cond t (first_failing x cs) (Err c.fault)) all.0 ∙ passing x cs all.1
 
 -- Lists of checks, one after the other.
-split_all : (first second : List Check) → All Passes (first ++ second) → All Passes first × All Passes second
+split_all : (first second : List Check) → AllByRecursion Passes (first ++ second) → AllByRecursion Passes first × AllByRecursion Passes second
 split_all [] second all = (tt, all)
 split_all (c ∷ cs) second all = let rest = split_all cs second all.1 in ((all.0, rest.0), rest.1)
 
 abbrev Described : List ℕ → List ℕ → ℕ → Kind → Type 0
-Described table text signature kind = All Passes (descriptor_checks text signature kind (descriptor_of table kind))
+Described table text signature kind = AllByRecursion Passes (descriptor_checks text signature kind (descriptor_of table kind))
 
-split_descriptors : (table text : List ℕ) (signature : ℕ) (these : List Kind) → All Passes (all_descriptor_checks table text signature these) → All (Described table text signature) these
+split_descriptors : (table text : List ℕ) (signature : ℕ) (these : List Kind) → AllByRecursion Passes (all_descriptor_checks table text signature these) → AllByRecursion (Described table text signature) these
 unfolding all_descriptor_checks
 split_descriptors table text signature [] all = tt
 split_descriptors table text signature (kind ∷ rest) all =
     let parts = split_all (descriptor_checks text signature kind (descriptor_of table kind)) (all_descriptor_checks table text signature rest) all in
     (parts.0, split_descriptors table text signature rest parts.1)
 
-join_descriptors : (table text : List ℕ) (signature : ℕ) (these : List Kind) → All (Described table text signature) these → All Passes (all_descriptor_checks table text signature these)
+join_descriptors : (table text : List ℕ) (signature : ℕ) (these : List Kind) → AllByRecursion (Described table text signature) these → AllByRecursion Passes (all_descriptor_checks table text signature these)
 unfolding all_descriptor_checks
 join_descriptors table text signature [] all = tt
 join_descriptors table text signature (kind ∷ rest) all =
     All-append Passes (descriptor_checks text signature kind (descriptor_of table kind)) (all_descriptor_checks table text signature rest) all.0
     (join_descriptors table text signature rest all.1)
 
-every_kind : (P : Kind → Type 0) → All P kinds → (kind : Kind) → P kind
+every_kind : (P : Kind → Type 0) → AllByRecursion P kinds → (kind : Kind) → P kind
 every_kind P all Add = all.0
 every_kind P all Push = all.1.0
 every_kind P all Pop = all.1.1.0
@@ -88,7 +88,7 @@ outside_from section address out = go (inside section address) refl
     go true e = absurd (out (is_inside section address e))
     go false e = e
 
-well_described : (text : List ℕ) (signature : ℕ) (kind : Kind) (d : Descriptor) → All Passes (descriptor_checks text signature kind d) → WellDescribed text signature kind d
+well_described : (text : List ℕ) (signature : ℕ) (kind : Kind) (d : Descriptor) → AllByRecursion Passes (descriptor_checks text signature kind d) → WellDescribed text signature kind d
 well_described text signature kind d all = record {
   version_is_zero = eqb-true d.version 0 all.0;
   flags_are_zero = eqb-true d.flags 0 all.1.0;
@@ -100,7 +100,7 @@ well_described text signature kind d all = record {
   routine_stands = routine_stands text kind d.section all.1.1.1.1.1.1.1.0;
 }
 
-descriptor_passes : (text : List ℕ) (signature : ℕ) (kind : Kind) (d : Descriptor) → WellDescribed text signature kind d → All Passes (descriptor_checks text signature kind d)
+descriptor_passes : (text : List ℕ) (signature : ℕ) (kind : Kind) (d : Descriptor) → WellDescribed text signature kind d → AllByRecursion Passes (descriptor_checks text signature kind d)
 descriptor_passes text signature kind d w = (
   eq-eqb d.version 0 w.version_is_zero,
   (
@@ -122,7 +122,7 @@ descriptor_passes text signature kind d w = (
 )
 
 module _ (sizes : Sizes) (table text : List ℕ) (signature : ℕ) where
-  pub acceptable : All Passes (image_checks sizes table text signature) → Acceptable sizes table text signature
+  pub acceptable : AllByRecursion Passes (image_checks sizes table text signature) → Acceptable sizes table text signature
   acceptable all =
       let parts = split_all (size_checks sizes) (table_check (length table) ∷ text_check (length text) ∷ all_descriptor_checks table text signature kinds) all in
       let s = parts.0 in
@@ -138,7 +138,7 @@ module _ (sizes : Sizes) (table text : List ℕ) (signature : ℕ) where
         well_described = λ kind. well_described text signature kind (descriptor_of table kind) (every_kind (Described table text signature) descriptors kind);
       }
 
-  image_passes : Acceptable sizes table text signature → All Passes (image_checks sizes table text signature)
+  image_passes : Acceptable sizes table text signature → AllByRecursion Passes (image_checks sizes table text signature)
   image_passes a =
       let d : (kind : Kind) → Described table text signature kind = λ kind. descriptor_passes text signature kind (descriptor_of table kind) (a.well_described kind) in
       All-append Passes (size_checks sizes) (table_check (length table) ∷ text_check (length text) ∷ all_descriptor_checks table text signature kinds) (

@@ -1,6 +1,6 @@
 -- The rules of an image in words, what it is to be refused by the first rule that fails, and what holds of an accepted image.
 use Rattle.std.specs.Prelude.{◌≡◌, ℕ, ◌+◌, ◌-◌, ◌*◌, ◌^◌, ◌<◌, ◌≤◌, true, false, List, ◌∷◌, ◌++◌, length, Ok, Err, Result, slice_index_or}
-use Rattle.std.specs.List.{AllByRecursion as All}
+use Rattle.std.specs.List.{AllByRecursion}
 use Rattle.faults.specs.declared.Fault.{Fault}
 use Rattle.image.specs.declared.fields.Sizes.{Sizes}
 use Rattle.image.specs.declared.layout.Descriptor.{Descriptor}
@@ -52,12 +52,12 @@ pub record FirstOf (checks : List Check) (fault : Fault) : Type 0 where
   pub failing : Check
   pub after : List Check
   pub in_order : checks ≡ before ++ (failing ∷ after)
-  pub all_before_pass : All (λ check. check.passes ≡ true) before
+  pub all_before_pass : AllByRecursion (λ check. check.passes ≡ true) before
   pub it_fails : failing.passes ≡ false
   pub is_its_fault : fault ≡ failing.fault
 
 abbrev pub FirstThatFails : {X : Type 0} → List Check → Result X Fault → Type 0
-FirstThatFails checks (Ok x) = All (λ check. check.passes ≡ true) checks
+FirstThatFails checks (Ok x) = AllByRecursion (λ check. check.passes ≡ true) checks
 FirstThatFails checks (Err fault) = FirstOf checks fault
 
 -- What holds of an accepted image: no address lies in two sections, entries and aborts lie in none, and every routine stands.

@@ -1,6 +1,6 @@
 -- Every call has an outcome.
 use Rattle.std.proofs.Common.{◌≡◌, ℕ, zero, suc, Bool, true, false, eqb, List, [], ◌∷◌, is_some, Some, None, Ok, Err, MatchBool, Option, Result, refl, subst, arith}
-use Rattle.std.specs.List.{AllByRecursion as All}
+use Rattle.std.specs.List.{AllByRecursion}
 use Rattle.faults.specs.declared.Fault.{Fault}
 use Rattle.faults.specs.declared.Refusal.TheVariants.{Held}
 use Rattle.faults.specs.Numbering.{fault_at}
@@ -24,7 +24,7 @@ module _ {E : Type 0} (told : E → Notice → E → Type 0) (answers : E → �
   abbrev Outcome : (Answered → Core × E → Type 0) → Type 0
   Outcome done = (r : Answered) × (k : Core × E) × done r k
 
-  with_checks : (m : Core × E) (checks : List Check) (done : Answered → Core × E → Type 0) → (All (λ (check : Check). check.passes ≡ true) checks → Outcome done) → (x : Result (Unit {0}) Fault) → all_pass checks ≡ x
+  with_checks : (m : Core × E) (checks : List Check) (done : Answered → Core × E → Type 0) → (AllByRecursion (λ (check : Check). check.passes ≡ true) checks → Outcome done) → (x : Result (Unit {0}) Fault) → all_pass checks ≡ x
       → Outcome (λ r k. ByChecks told answers m x r k (done r k))
   with_checks m checks done then (Ok u) is = then (all_passed tt u checks is)
   with_checks m checks done then (Err fault) is = (refused fault, m, (refl, refl))

@@ -1,6 +1,6 @@
 -- The claims: what holds of a machine with any past, over any exclusion that has the meaning.
 use Rattle.std.specs.Prelude.{◌≡◌, ℕ, zero, suc, ◌+◌, ◌%◌, ◌<◌, ◌≤◌, Bool, true, false, cond, ◌⊎◌, List, [], ◌∷◌, ◌++◌, map, reverse, length, take, replicate, is_some, Some, None, Option, ◌==◌, ◌≢◌, slice_index, slice_index_or}
-use Rattle.std.specs.List.{AllByRecursion as All}
+use Rattle.std.specs.List.{AllByRecursion}
 use Rattle.faults.specs.declared.Refusal.TheVariants.{Held}
 use Rattle.faults.specs.Numbering.{fault_at, number_of}
 use Rattle.image.specs.declared.fields.Sizes.{Sizes}
@@ -176,7 +176,7 @@ NotGranted granted = ⊥
 NotGranted (held c) = Unit {0}
 
 abbrev pub NothingGranted : List Mark → Type 0
-NothingGranted marks = All NotGranted marks
+NothingGranted marks = AllByRecursion NotGranted marks
 
 abbrev is_settling : Mark → Bool
 is_settling (instruction settles) = settles

@@ -1,7 +1,7 @@
 -- What is written of a job and of calls reads back as them.
 use Rattle.std.proofs.Common.{◌≡◌, ℕ, zero, suc, ◌+◌, ◌^◌, ◌<◌, ◌≤◌, cond, ltb, List, [], ◌∷◌, ◌++◌, length, get_or, take, drop, None, Ok, Err, sym, refl, ap, ◌∙◌, append_assoc, add-zero, arith, length-append, length-drop, length-take, le-ltb, lt-ltb}
 use Rattle.std.proofs.lemmas.List.{take_at, drop_at, get_or-drop}
-use Rattle.std.specs.List.{AllByRecursion as All}
+use Rattle.std.specs.List.{AllByRecursion}
 use Rattle.faults.specs.declared.Refusal.TheVariants.{EndsInside}
 use Rattle.faults.specs.Numbering.{fault_at}
 use Rattle.numbers.specs.Spelling.{spelling}
@@ -20,7 +20,7 @@ use Rattle.roundtrip.proofs.Parsing.{ReadsThere, then_ok, behind_it, number_ther
 use Rattle.schedule.proofs.Calling.{no_call, some_call}
 
 -- The words of a text.
-pub words_there : (bytes : List ℕ) (at : ℕ) (words rest : List ℕ) → All (λ word. word < 2 ^ 32) words → drop at bytes ≡ written_numbers words ++ rest
+pub words_there : (bytes : List ℕ) (at : ℕ) (words rest : List ℕ) → AllByRecursion (λ word. word < 2 ^ 32) words → drop at bytes ≡ written_numbers words ++ rest
     → ReadsThere (words_at (length words) bytes at) words bytes at (length (written_numbers words)) rest
 unfolding words_at
 words_there bytes at [] rest all e = record { answer = ap (λ k. Ok ([], k)) (sym (add-zero at)); onward = ap (λ k. drop k bytes) (add-zero at) ∙ e }
@@ -207,7 +207,7 @@ some_byte (Idle cpu) = omega arith
 some_byte (Signal thread operation) = omega arith
 
 -- Calls to the end.
-pub calls_there : (calls : List Call) (k : ℕ) (bytes : List ℕ) (at : ℕ) → All Tellable calls → drop at bytes ≡ written_calls calls → length bytes ≤ k + at
+pub calls_there : (calls : List Call) (k : ℕ) (bytes : List ℕ) (at : ℕ) → AllByRecursion Tellable calls → drop at bytes ≡ written_calls calls → length bytes ≤ k + at
     → calls_from k bytes at ≡ record { calls = placed at calls; fault = None }
 calls_there [] k bytes at all e enough = no_call k bytes at (let none = sym (length-drop at bytes) ∙ ap length e in omega arith)
 calls_there (call ∷ calls) k bytes at all e enough = go k enough (λ j room. calls_there calls j bytes (at + length (written_call call)) all.1 (behind_it bytes at (written_call call) (written_calls calls) e) room)

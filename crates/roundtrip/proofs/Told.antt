@@ -3,7 +3,7 @@ use Rattle.std.proofs.Common.{◌≡◌, ℕ, zero, suc, ◌+◌, ◌-◌, ◌^�
 use lib.ListN.{length-replicate}
 use Rattle.std.proofs.lemmas.List.{drop-drop, drop_more, take_at}
 use Rattle.std.proofs.lemmas.Bool.{eqb-true}
-use Rattle.std.specs.List.{AllByRecursion as All}
+use Rattle.std.specs.List.{AllByRecursion}
 use Rattle.faults.specs.declared.Refusal.TheVariants.{EndsInside, UnknownLetter}
 use Rattle.faults.specs.Numbering.{fault_at}
 use Rattle.numbers.specs.Spelling.{Bytes, spelling}
@@ -23,7 +23,7 @@ use Rattle.roundtrip.proofs.Parsing.{Stands, split, err_no_ok, same_value, same_
 -- Words.
 pub record WordsStood (bytes : List ℕ) (k at : ℕ) (words : List ℕ) (next : ℕ) : Type 0 where
   pub many : length words ≡ k
-  pub within : All (λ word. word < 2 ^ 32) words
+  pub within : AllByRecursion (λ word. word < 2 ^ 32) words
   pub stand : Stands bytes at (written_numbers words) next
 
 words_stood : (k : ℕ) (bytes : List ℕ) (at : ℕ) (words : List ℕ) (next : ℕ) → Bytes bytes → words_at k bytes at ≡ Ok (words, next) → WordsStood bytes k at words next
@@ -93,7 +93,7 @@ pub record TextStood (bytes : List ℕ) (at : ℕ) (text : Text) (next : ℕ) : 
   pub some_words : 1 ≤ text.count
   pub words_fit : text.count ≤ 256
   pub text_padded : text.words ≡ padded (words_of text)
-  pub words_within : All (λ word. word < 2 ^ 32) (words_of text)
+  pub words_within : AllByRecursion (λ word. word < 2 ^ 32) (words_of text)
   pub stand : Stands bytes at (spelling text.count ++ written_numbers (words_of text)) next
 
 of_words : (bytes : List ℕ) (at count mid : ℕ) (words : List ℕ) (next : ℕ) → ((1 ≤ count) × (count ≤ 256)) → Stands bytes at (spelling count) mid → WordsStood bytes count mid words next
@@ -107,7 +107,7 @@ of_words bytes at count mid words next limits number w =
       some_words = limits.0;
       words_fit = limits.1;
       text_padded = ap padded (sym same);
-      words_within = subst (All (λ word. word < 2 ^ 32)) (sym same) w.within;
+      words_within = subst (AllByRecursion (λ word. word < 2 ^ 32)) (sym same) w.within;
       stand = stands_then number (subst (λ ws. Stands bytes mid (written_numbers ws) next) (sym same) w.stand);
     }
 

@@ -1,6 +1,6 @@
 -- The laws of schedules: what is written reads back, and what is read was so written.
 use Rattle.std.specs.Prelude.{◌≡◌, ℕ, ◌+◌, ◌≤◌, List, [], ◌∷◌, ◌++◌, length, drop, None, Ok}
-use Rattle.std.specs.List.{AllByRecursion as All}
+use Rattle.std.specs.List.{AllByRecursion}
 use Rattle.numbers.specs.Spelling.{Bytes}
 use Rattle.calls.specs.declared.Call.{Call}
 use Rattle.schedule.specs.declared.body.CallAt.{CallAt}
@@ -16,7 +16,7 @@ placed at (call ∷ calls) = record { at = at; call = call } ∷ placed (at + le
 -- A schedule that is written from a job and calls, and is not too long, reads back as them, to its end.
 abbrev pub ScheduleReadsBack : Type 0
 ScheduleReadsBack =
-    (job : Job) (calls : List Call) → TellableJob job → All Tellable calls → length (written_schedule job calls) ≤ 32768
+    (job : Job) (calls : List Call) → TellableJob job → AllByRecursion Tellable calls → length (written_schedule job calls) ≤ 32768
     → (header_at (written_schedule job calls) ≡ Ok (job, length (written_job job)))
     × (calls_from (length (written_schedule job calls)) (written_schedule job calls) (length (written_job job)) ≡ record { calls = placed (length (written_job job)) calls; fault = None })
 

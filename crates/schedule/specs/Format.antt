@@ -1,6 +1,6 @@
 -- What bytes a job and its calls are written as.
 use Rattle.std.specs.Prelude.{◌≡◌, ℕ, ◌-◌, ◌^◌, ◌<◌, ◌≤◌, List, [], ◌∷◌, ◌++◌, length, take, replicate}
-use Rattle.std.specs.List.{AllByRecursion as All}
+use Rattle.std.specs.List.{AllByRecursion}
 use Rattle.numbers.specs.Spelling.{spelling}
 use Rattle.image.specs.declared.fields.Field.{Field}
 use Rattle.image.specs.declared.fields.Field.TheVariants.{Cpus, Threads, Nodes, Packets, Counters}
@@ -76,7 +76,7 @@ pub record TellableJob (job : Job) : Type 0 where
   pub some_words : 1 ≤ job.text.count
   pub words_fit : job.text.count ≤ 256
   pub text_padded : job.text.words ≡ padded (words_of job.text)
-  pub words_within : All (λ word. word < 2 ^ 32) (words_of job.text)
+  pub words_within : AllByRecursion (λ word. word < 2 ^ 32) (words_of job.text)
 
 abbrev pub TellableOperation : RawOperation → Type 0
 TellableOperation operation = (operation.kind < 2 ^ 64) × (operation.counter < 2 ^ 64) × (operation.amount < 2 ^ 64)
