@@ -1,13 +1,13 @@
 -- A CPU gets another thread or none, and a thread gets another operation.
 use Rattle.std.proofs.Common.{◌≡◌, ℕ, ◌<◌, ◌≤◌, ◌⊎◌, ◌∷◌, Some, None, Option, sym, refl, ap, ◌∙◌, subst, inl, inr, ⊎_elim, arith, length-set, get_or-set_other, get_or-set_same}
 use Rattle.std.proofs.lemmas.Bool.{cases_eq, cases_lt}
-use Rattle.std.specs.List.{AllByRecursion as All}
+use Rattle.std.specs.List.{AllByRecursion}
 use Rattle.exclusion.specs.Meaning.{Meaning}
 use Rattle.model.specs.declared.state.Operation.{Operation}
 use Rattle.model.specs.declared.state.Thread.{Thread}
 use Rattle.model.specs.declared.state.Cpu.{Cpu}
 use Rattle.model.specs.declared.state.Core.{Core}
-use Rattle.model.specs.State.{no_cpu, no_thread, cpu_current, put_thread, put_cpu, thread_at, cpu_at, top_frame, pushed, begun, frames-of}
+use Rattle.model.specs.State.{no_cpu, no_thread, cpu_current, put_thread, put_cpu, thread_at, cpu_at, top_frame, pushed}
 use Rattle.model.specs.Ledger.{Ledger, Waiting, updated, with_waiting}
 use Rattle.model.specs.Ledger.{with_current as ledger-current}
 use Rattle.lives.proofs.Nodes.{updated_here, updated_else}
@@ -16,19 +16,20 @@ use Rattle.lives.proofs.Midway.{Holds, Valid}
 use Rattle.lives.proofs.Standing.{RestartPoint, at_entry, Midway, Standing, idle, resting, restarting, midway, ThreadStands, Invariant}
 use Rattle.lives.proofs.Keeping.{some_same}
 use Rattle.lives.proofs.Threads.{all_top, pushed_stands, pushed_frames}
+use Rattle.lives.specs.Apart.{begun, frames_of}
 
 none_some : {P : Type 0} {x : ℕ} → ◌≡◌ {A = Option ℕ} None (Some x) → P
 none_some e = let z : ◌≡◌ {A = ℕ} 0 1 = cc in absurd (omega arith)
 
 -- A thread all of whose frames stand at restart points, on a CPU without patience.
-pub calm_standing : (core : Core) (patience c t : ℕ) → (cpu_at core c).current ≡ Some t → patience ≡ 0 → Whole (thread_at core t) → All (RestartPoint core.image) (frames-of (thread_at core t)) → Standing core patience c
+pub calm_standing : (core : Core) (patience c t : ℕ) → (cpu_at core c).current ≡ Some t → patience ≡ 0 → Whole (thread_at core t) → AllByRecursion (RestartPoint core.image) (frames_of (thread_at core t)) → Standing core patience c
 calm_standing core patience c t on calm whole all =
     ⊎_elim (λ (none : (thread_at core t).depth < 1). resting t on (omega arith) calm)
     (λ (some : 1 ≤ (thread_at core t).depth). restarting t on some (all_top (RestartPoint core.image) (thread_at core t) whole some all) calm) (cases_lt (thread_at core t).depth 1)
 
 -- A CPU gets another thread, which no CPU has, or none.
 module _ (l : Ledger) (m : Meaning) (core : Core) (c : ℕ) (o : Option ℕ) (inv : Invariant l m core) (exists : c < core.sizes.cpus) (calm : m.patience c ≡ 0)
-    (restart : (s : ℕ) → l.current c ≡ Some s → All (RestartPoint core.image) (frames-of (thread_at core s)))
+    (restart : (s : ℕ) → l.current c ≡ Some s → AllByRecursion (RestartPoint core.image) (frames_of (thread_at core s)))
     (free : (t : ℕ) → o ≡ Some t → (t < core.sizes.threads) × ((other : ℕ) → l.current other ≡ Some t → ⊥)) where
   abbrev k : Ledger
   k = ledger-current l (updated l.current c o)
@@ -53,7 +54,7 @@ module _ (l : Ledger) (m : Meaning) (core : Core) (c : ℕ) (o : Option ℕ) (in
         sixteen_slots = h.sixteen_slots;
         counts = h.counts;
         listed = h.listed;
-        ringed = record { at_most = h.ringed.at_most; head-is-a-slot = h.ringed.head-is-a-slot; slot = h.ringed.slot; up_to_the_tail = h.ringed.up_to_the_tail };
+        ringed = record { at_most = h.ringed.at_most; head_is_a_slot = h.ringed.head_is_a_slot; slot = h.ringed.slot; up_to_the_tail = h.ringed.up_to_the_tail };
       }
 
   -- Whose thread it is now.
@@ -76,7 +77,7 @@ module _ (l : Ledger) (m : Meaning) (core : Core) (c : ℕ) (o : Option ℕ) (in
   standing_else other differs (midway s on some at) =
       midway s (ap (λ (y : Cpu). y.current) (cpu_else other differs) ∙ on) some (subst (λ y. Midway core.sizes.packets core.image other y core.next (thread_at core s)) (sym (cpu_else other differs)) at)
 
-  off_cpu : (s : ℕ) → s < core.sizes.threads → ((other : ℕ) → k.current other ≡ Some s → ⊥) → (before : Option ℕ) → l.current c ≡ before → All (RestartPoint core.image) (frames-of (thread_at core s))
+  off_cpu : (s : ℕ) → s < core.sizes.threads → ((other : ℕ) → k.current other ≡ Some s → ⊥) → (before : Option ℕ) → l.current c ≡ before → AllByRecursion (RestartPoint core.image) (frames_of (thread_at core s))
   off_cpu s below off None is =
       inv.off_cpu s below
       (λ other on. ⊎_elim (λ (same : other ≡ c). none_some (sym is ∙ ap l.current (sym same) ∙ on)) (λ (differs : other ≡ c → ⊥). off other (now_else other differs ∙ on)) (cases_eq other c))
@@ -133,7 +134,7 @@ module _ (l : Ledger) (m : Meaning) (core : Core) (c : ℕ) (o : Option ℕ) (in
 
 -- A thread whose frames all stand at restart points gets another operation on top.
 module _ (l : Ledger) (m : Meaning) (core : Core) (t number : ℕ) (operation : Operation) (inv : Invariant l m core) (exists : t < core.sizes.threads) (room : (thread_at core t).depth < 8)
-    (restart : All (RestartPoint core.image) (frames-of (thread_at core t))) (valid : Valid core.sizes operation) (calm : (c : ℕ) → l.current c ≡ Some t → m.patience c ≡ 0) where
+    (restart : AllByRecursion (RestartPoint core.image) (frames_of (thread_at core t))) (valid : Valid core.sizes operation) (calm : (c : ℕ) → l.current c ≡ Some t → m.patience c ≡ 0) where
   abbrev top : Waiting
   top = record { call = number; operation = operation }
 
@@ -155,9 +156,9 @@ module _ (l : Ledger) (m : Meaning) (core : Core) (t number : ℕ) (operation : 
   stands : ThreadStands core.sizes core.image (top ∷ l.waiting t) thread
   stands = pushed_stands core.sizes core.image (l.waiting t) (thread_at core t) (begun core.image operation) (inv.threads t exists) room restart top refl valid
 
-  all_restart : All (RestartPoint core.image) (frames-of thread)
+  all_restart : AllByRecursion (RestartPoint core.image) (frames_of thread)
   all_restart =
-      subst (All (RestartPoint core.image)) (sym (pushed_frames core.sizes core.image (l.waiting t) (thread_at core t) (begun core.image operation) (inv.threads t exists) room restart)) (at_entry refl refl, restart)
+      subst (AllByRecursion (RestartPoint core.image)) (sym (pushed_frames core.sizes core.image (l.waiting t) (thread_at core t) (begun core.image operation) (inv.threads t exists) room restart)) (at_entry refl refl, restart)
 
   abbrev Stands : ℕ → Type 0
   Stands c = Standing after (m.patience c) c
@@ -166,7 +167,7 @@ module _ (l : Ledger) (m : Meaning) (core : Core) (t number : ℕ) (operation : 
   on_this : (c s : ℕ) → (cpu_at core c).current ≡ Some s → s ≡ t → Stands c
   on_this c s on same =
       let there : (cpu_at core c).current ≡ Some t = on ∙ ap Some same in
-      calm_standing after (m.patience c) c t there (calm c (sym (inv.current c) ∙ there)) (subst Whole (sym thread_here) stands.whole) (subst (λ x. All (RestartPoint core.image) (frames-of x)) (sym thread_here) all_restart)
+      calm_standing after (m.patience c) c t there (calm c (sym (inv.current c) ∙ there)) (subst Whole (sym thread_here) stands.whole) (subst (λ x. AllByRecursion (RestartPoint core.image) (frames_of x)) (sym thread_here) all_restart)
 
   standing_now : (c : ℕ) → Standing core (m.patience c) c → Stands c
   standing_now c (idle none calm) = idle none calm
@@ -212,6 +213,6 @@ module _ (l : Ledger) (m : Meaning) (core : Core) (t number : ℕ) (operation : 
     off_cpu = λ s below off.
         ⊎_elim
         (λ (same : s ≡ t).
-        subst (λ x. All (RestartPoint core.image) (frames-of (thread_at after x))) (sym same) (subst (λ x. All (RestartPoint core.image) (frames-of x)) (sym thread_here) all_restart))
-        (λ (differs : s ≡ t → ⊥). subst (λ x. All (RestartPoint core.image) (frames-of x)) (sym (thread_else s differs)) (inv.off_cpu s below off)) (cases_eq s t);
+        subst (λ x. AllByRecursion (RestartPoint core.image) (frames_of (thread_at after x))) (sym same) (subst (λ x. AllByRecursion (RestartPoint core.image) (frames_of x)) (sym thread_here) all_restart))
+        (λ (differs : s ≡ t → ⊥). subst (λ x. AllByRecursion (RestartPoint core.image) (frames_of x)) (sym (thread_else s differs)) (inv.off_cpu s below off)) (cases_eq s t);
   }

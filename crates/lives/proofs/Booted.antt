@@ -3,7 +3,7 @@ use Rattle.std.proofs.Common.{◌≡◌, ℕ, zero, suc, ◌-◌, ◌<◌, ◌�
 use lib.ListN.{get_or-replicate}
 use lib.Seq.{take-append_seam}
 use Rattle.std.proofs.lemmas.Bool.{eqb-true, ne_eqb, lt-leb, cases_eq, and_parts}
-use Rattle.std.specs.List.{AllByRecursion as All}
+use Rattle.std.specs.List.{AllByRecursion}
 use Rattle.words.specs.declared.Kind.{Kind}
 use Rattle.words.specs.declared.Kind.TheVariants as kind
 use Rattle.words.specs.declared.Word.{Word}
@@ -27,14 +27,15 @@ use Rattle.model.specs.declared.state.Operation.{Operation}
 use Rattle.model.specs.declared.state.Cpu.{Cpu}
 use Rattle.model.specs.declared.state.Image.{Image}
 use Rattle.model.specs.declared.state.Core.{Core}
-use Rattle.model.specs.State.{no_cpu, no_thread, new_cpu, new_thread, new_core, thread_at, cpu_at, frames-of, kind_of_operation, section_of_operation, entry_of}
-use Rattle.model.specs.Words.{word_of, decoded, word_here}
+use Rattle.model.specs.State.{no_cpu, no_thread, new_cpu, new_thread, new_core, thread_at, cpu_at, kind_of_operation}
+use Rattle.model.specs.Words.{word_of, decoded}
 use Rattle.model.specs.Calls.{same_section, section_checks, image_of, Boots}
 use Rattle.model.specs.Ledger.{new_ledger}
 use Rattle.model.specs.Claims.{StructuresAgree, among, HasMeaning}
 use Rattle.model.proofs.Booting.{new_agrees}
 use Rattle.lives.proofs.Nodes.{new_nodes}
 use Rattle.lives.proofs.Standing.{TextStands, RestartPoint, idle, ThreadStands, WithinLimits, Invariant}
+use Rattle.lives.specs.Apart.{frames_of, section_of_operation, entry_of, word_here}
 
 -- Nothing is not something.
 none_no_some : {P : Type 0} {n : ℕ} → ◌≡◌ {A = Option ℕ} None (Some n) → P
@@ -138,7 +139,7 @@ module _ (table text : List ℕ) where
 abbrev Passes : Check → Type 0
 Passes check = check.passes ≡ true
 
-split_all : (first second : List Check) → All Passes (first ++ second) → All Passes first × All Passes second
+split_all : (first second : List Check) → AllByRecursion Passes (first ++ second) → AllByRecursion Passes first × AllByRecursion Passes second
 split_all [] second all = (tt, all)
 split_all (c ∷ cs) second all = let rest = split_all cs second all.1 in ((all.0, rest.0), rest.1)
 
@@ -156,7 +157,7 @@ same_by_test one other e =
     same_fields one other (eqb-true one.start other.start p.0) (eqb-true one.length other.length q.0) (eqb-true one.abort other.abort q.1)
 
 -- An exclusion that passes the comparison has the table's sections.
-sections_agree : (m : Meaning) (table : List ℕ) → Shaped m → All Passes (section_checks m.section table kinds) → (d : ℕ) → m.section d ≡ section_at (sections_of table) d
+sections_agree : (m : Meaning) (table : List ℕ) → Shaped m → AllByRecursion Passes (section_checks m.section table kinds) → (d : ℕ) → m.section d ≡ section_at (sections_of table) d
 sections_agree m table shaped all zero = shaped.five_sections 0 (inl refl)
 sections_agree m table shaped all (suc zero) = same_by_test (m.section 1) (section_of table kind.Add) all.0
 sections_agree m table shaped all (suc (suc zero)) = same_by_test (m.section 2) (section_of table kind.Push) all.1.0
@@ -242,7 +243,7 @@ module _ (sizes : Sizes) (image : Image) where
           sixteen_slots = new_cpu_at (λ x. length x.slots ≡ 16) c (on_cpu c below) (λ first. refl);
           counts = λ counter few. agrees.counters c counter below few;
           listed = agrees.lists c below;
-          ringed = agrees.rings c below;
+          ringed = let ring = agrees.rings c below in let at_0 = new_cpu_at (λ x. x.head ≡ 0) c (on_cpu c below) (λ first. refl) in record { at_most = ring.at_most; head_is_a_slot = omega (arith, at_0); slot = ring.slot; up_to_the_tail = ring.up_to_the_tail };
         };
         hands = agrees.hands;
         current = no_current;
@@ -254,7 +255,7 @@ module _ (sizes : Sizes) (image : Image) where
         nowhere_else = λ t beyond. refl;
         nodes = λ node. new_nodes sizes node limits.some_cpus;
         standing = λ c below. idle (no_current c) (patience c (on_cpu c below));
-        off_cpu = λ t below nowhere. subst (λ thread. All (RestartPoint image) (frames-of thread)) (sym (in_threads t below)) tt;
+        off_cpu = λ t below nowhere. subst (λ thread. AllByRecursion (RestartPoint image) (frames_of thread)) (sym (in_threads t below)) tt;
       }
 
 -- A boot that is accepted gives a new machine: its image was accepted, and the exclusion has its sections and no patience.
@@ -266,7 +267,7 @@ module _ {E : Type 0} (meaning : E → Meaning) (told : E → Notice → E → T
     booted_new : m.0 ≡ new_core sizes (image_of table text)
     booted_new = passed (new_core sizes (image_of table text)) m.0 checks (sym boots.0)
 
-    checks_pass : All Passes (image_checks sizes table text signature) × All Passes (section_checks (meaning e).section table kinds)
+    checks_pass : AllByRecursion Passes (image_checks sizes table text signature) × AllByRecursion Passes (section_checks (meaning e).section table kinds)
     checks_pass = split_all (image_checks sizes table text signature) (section_checks (meaning e).section table kinds) (all_passed (new_core sizes (image_of table text)) m.0 checks (sym boots.0))
 
     accepted_image : Acceptable sizes table text signature

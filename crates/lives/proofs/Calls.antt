@@ -1,7 +1,7 @@
 -- The parts of calls: checks that pass or refuse, operations, the CPU that has a thread, and disturbing a CPU's thread.
 use Rattle.std.proofs.Common.{◌≡◌, ℕ, zero, suc, ◌-◌, ◌<◌, ◌≤◌, Bool, true, false, cond, eqb, List, [], ◌∷◌, reverse, get_or, take, Some, None, Err, MatchBool, Option, Result, sym, refl, ap, ◌∙◌, subst, ⊎_elim, arith, get_or-set_other, get_or-set_same}
 use Rattle.std.proofs.lemmas.Bool.{cases_eq, cases_lt, eqb-true, eqb-false, ltb-true}
-use Rattle.std.specs.List.{AllByRecursion as All}
+use Rattle.std.specs.List.{AllByRecursion}
 use Rattle.faults.specs.declared.Fault.{Fault}
 use Rattle.image.specs.declared.fields.Sizes.{Sizes}
 use Rattle.image.specs.Checks.{Check, first_failing}
@@ -19,8 +19,8 @@ use Rattle.model.specs.declared.state.Operation.TheVariants.{Add, Push, Pop, Put
 use Rattle.model.specs.declared.state.Thread.{Thread}
 use Rattle.model.specs.declared.state.Cpu.{Cpu}
 use Rattle.model.specs.declared.state.Core.{Core}
-use Rattle.model.specs.State.{no_cpu, no_thread, put_thread, thread_at, cpu_at, top_frame, frames-of}
-use Rattle.model.specs.Calls.{by_kind, operation_of, is_thread, cpu_among, cpu_of, after_verdict, with_thread, Disturbs, DisturbsCurrent}
+use Rattle.model.specs.State.{no_cpu, no_thread, put_thread, thread_at, cpu_at, top_frame}
+use Rattle.model.specs.Calls.{by_kind, operation_of, cpu_of, after_verdict, with_thread, Disturbs, DisturbsCurrent}
 use Rattle.model.specs.Ledger.{Ledger, updated}
 use Rattle.model.specs.Claims.{HasMeaning}
 use Rattle.lives.proofs.Nodes.{updated_here, updated_else}
@@ -28,9 +28,10 @@ use Rattle.lives.proofs.Midway.{Valid}
 use Rattle.lives.proofs.Standing.{RestartPoint, Standing, idle, resting, Invariant}
 use Rattle.lives.proofs.Keeping.{some_same}
 use Rattle.lives.proofs.Disturbing.{meaning_changed, Calmed, ByOutcome, by_verdict}
+use Rattle.lives.specs.Apart.{frames_of, is_thread, cpu_among}
 
 -- The fault of checks that do not all pass is that of one of them.
-pub fault_among : {X : Type 0} (P : Fault → Type 0) (x : X) (checks : List Check) (fault : Fault) → All (λ (check : Check). P check.fault) checks → first_failing x checks ≡ Err fault → P fault
+pub fault_among : {X : Type 0} (P : Fault → Type 0) (x : X) (checks : List Check) (fault : Fault) → AllByRecursion (λ (check : Check). P check.fault) checks → first_failing x checks ≡ Err fault → P fault
 fault_among P x [] fault all e = let z : ◌≡◌ {A = ℕ} 0 1 = cc in absurd (omega arith)
 fault_among {X} P x (check ∷ checks) fault all e = go check.passes refl (λ rest. fault_among P x checks fault all.1 rest)
   where
@@ -108,7 +109,7 @@ module _ {E : Type 0} (meaning : E → Meaning) (told : E → Notice → E → T
   -- Else all frames of its thread stand at restart points, and nothing else has changed.
   pub record IsCalm (f : E) (later : Core) : Type 0 where
     pub invariant : Invariant l (meaning f) later
-    pub restart : (s : ℕ) → l.current c ≡ Some s → All (RestartPoint later.image) (frames-of (thread_at later s))
+    pub restart : (s : ℕ) → l.current c ≡ Some s → AllByRecursion (RestartPoint later.image) (frames_of (thread_at later s))
     pub threads_else : (s : ℕ) → (l.current c ≡ Some s → ⊥) → thread_at later s ≡ thread_at m.0 s
     pub depths : (s : ℕ) → (thread_at later s).depth ≡ (thread_at m.0 s).depth
     pub same_image : later.image ≡ m.0.image
@@ -127,7 +128,7 @@ module _ {E : Type 0} (meaning : E → Meaning) (told : E → Notice → E → T
       let becomes = left_becomes f is in
       record {
         invariant = meaning_changed l (meaning m.1) (meaning f) m.0 c inv becomes.sections_stay becomes.elsewhere (standing f is);
-        restart = λ s there. subst (All (RestartPoint m.0.image)) (sym (ap (λ n. reverse (take n (thread_at m.0 s).frames)) (rests s there))) tt;
+        restart = λ s there. subst (AllByRecursion (RestartPoint m.0.image)) (sym (ap (λ n. reverse (take n (thread_at m.0 s).frames)) (rests s there))) tt;
         threads_else = λ s differs. refl;
         depths = λ s. refl;
         same_image = refl;
@@ -169,7 +170,7 @@ module _ {E : Type 0} (meaning : E → Meaning) (told : E → Notice → E → T
         (by_verdict l (meaning m.1) m.0 c t inv on some (meaning f) (left_becomes f tells) v (has.says m.1 c _ _ v answer)) in
         record {
           invariant = calmed.invariant;
-          restart = λ s there. subst (λ x. All (RestartPoint m.0.image) (frames-of (thread_at (put_thread m.0 t th) x))) (some_same (sym on ∙ there)) calmed.restart;
+          restart = λ s there. subst (λ x. AllByRecursion (RestartPoint m.0.image) (frames_of (thread_at (put_thread m.0 t th) x))) (some_same (sym on ∙ there)) calmed.restart;
           threads_else = λ s differs. get_or-set_other m.0.threads t s th no_thread (λ same. differs (on ∙ ap Some (sym same)));
           depths = λ s.
               ⊎_elim

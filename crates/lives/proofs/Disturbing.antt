@@ -1,7 +1,7 @@
 -- Disturbing the thread of a CPU: where it is not held it ends at a restart point, and all is kept.
 use Rattle.std.proofs.Common.{◌≡◌, ℕ, ◌+◌, ◌*◌, ◌<◌, ◌≤◌, cond, length, Some, None, Option, sym, refl, ap, ◌∙◌, subst, inl, inr, ⊎_elim, arith, get_or-set_same}
 use Rattle.std.proofs.lemmas.Bool.{cases_eq, cases_lt, eq-eqb, ne_eqb}
-use Rattle.std.specs.List.{AllByRecursion as All}
+use Rattle.std.specs.List.{AllByRecursion}
 use Rattle.image.specs.declared.layout.Section.{Section}
 use Rattle.image.specs.Layout.{Inside}
 use Rattle.exclusion.specs.declared.meaning.Verdict.{Verdict}
@@ -12,7 +12,7 @@ use Rattle.model.specs.declared.state.Operation.{Operation}
 use Rattle.model.specs.declared.state.Frame.{Frame}
 use Rattle.model.specs.declared.state.Thread.{Thread}
 use Rattle.model.specs.declared.state.Core.{Core}
-use Rattle.model.specs.State.{no_thread, put_thread, thread_at, cpu_at, top_frame, frames-of, descriptor_of_operation, section_of_operation}
+use Rattle.model.specs.State.{no_thread, put_thread, thread_at, cpu_at, top_frame, descriptor_of_operation}
 use Rattle.model.specs.Calls.{after_verdict}
 use Rattle.model.specs.Ledger.{Ledger}
 use Rattle.lives.proofs.Midway.{words_of}
@@ -21,6 +21,7 @@ use Rattle.lives.proofs.Keeping.{some_same, Change, kept}
 use Rattle.lives.proofs.Threads.{TopBecomes, top_is, topped, all_from_top}
 use Rattle.lives.proofs.Wholes.{same_ledger}
 use Rattle.lives.proofs.Instructing.{few_words, known_within, inside_section}
+use Rattle.lives.specs.Apart.{frames_of, section_of_operation}
 
 -- Only the meaning changes, on one CPU.
 pub meaning_changed : (l : Ledger) (m n : Meaning) (core : Core) (c : ℕ) → Invariant l m core → ((d : ℕ) → n.section d ≡ m.section d) → ((other : ℕ) → (other ≡ c → ⊥) → n.patience other ≡ m.patience other)
@@ -152,13 +153,13 @@ module _ (l : Ledger) (m : Meaning) (core : Core) (c t : ℕ) (inv : Invariant l
   -- The thread with its top frame at a restart point, and left told.
   pub record Calmed (n : Meaning) (later : Core) : Type 0 where
     pub invariant : Invariant l n later
-    pub restart : All (RestartPoint core.image) (frames-of (thread_at later t))
+    pub restart : AllByRecursion (RestartPoint core.image) (frames_of (thread_at later t))
 
   calmed : (n : Meaning) (th : Thread) (frame : Frame) → PatienceBecomes m c 0 n → TopBecomes thread frame th → frame.operation ≡ operation → th.hand ≡ thread.hand → RestartPoint core.image frame
       → Calmed n (put_thread core t th)
   calmed n th frame told becomes same_operation hand point = record {
     invariant = kept l l m n core c t th core.cpus core.next change;
-    restart = subst (λ x. All (RestartPoint core.image) (frames-of x)) (sym here) (all_from_top (RestartPoint core.image) th thread_later.whole more top_restarts thread_later.below);
+    restart = subst (λ x. AllByRecursion (RestartPoint core.image) (frames_of x)) (sym here) (all_from_top (RestartPoint core.image) th thread_later.whole more top_restarts thread_later.below);
   }
     where
       thread_later : ThreadStands core.sizes core.image (l.waiting t) th

@@ -1,7 +1,7 @@
 -- Every life is faithful.
-use Rattle.std.proofs.Common.{◌≡◌, ℕ, ◌<◌, true, false, cond, eqb, leb, List, [], ◌∷◌, ◌++◌, Some, None, Ok, Err, Option, Result, sym, refl, ap, ◌∙◌, subst, ⊎_elim, arith}
+use Rattle.std.proofs.Common.{take, ◌≡◌, ℕ, ◌<◌, true, false, cond, eqb, leb, List, [], ◌∷◌, ◌++◌, Some, None, Ok, Err, Option, Result, sym, refl, ap, ◌∙◌, subst, ⊎_elim, arith}
 use Rattle.std.proofs.lemmas.Bool.{false≢true, eqb-true, ltb-true, le-leb, lt-leb, and_from, and_left, and_right}
-use Rattle.std.specs.List.{AllByRecursion as All}
+use Rattle.std.specs.List.{AllByRecursion}
 use Rattle.faults.specs.declared.Fault.{Fault}
 use Rattle.faults.specs.declared.Refusal.TheVariants.{Held}
 use Rattle.faults.specs.Numbering.{fault_at, number_of}
@@ -17,10 +17,10 @@ use Rattle.model.specs.declared.state.Operation.{Operation}
 use Rattle.model.specs.declared.state.Core.{Core}
 use Rattle.model.specs.declared.state.Settling.{Settling}
 use Rattle.model.specs.State.{thread_at, cpu_at, top_frame}
-use Rattle.model.specs.Calls.{refused, ran, advanced, operation_of, has_cpu, has_thread, is_operation, has_room, cpu_of, not_current, has_current, has_work, DisturbsCurrent, Granted-unless-held, ByChecks, Performs, Runs, Stopped, ByCurrent, ByOperation, with_frame, given_thread, Signals, Step}
+use Rattle.model.specs.Calls.{Granted, refused, ran, advanced, operation_of, has_cpu, has_thread, is_operation, has_room, cpu_of, not_current, has_current, has_work, DisturbsCurrent, Performs, Runs, Signals, Step}
 use Rattle.model.specs.Ledger.{Ledger, new_ledger}
 use Rattle.model.specs.Life.{Event, ledger, Life, booted, lived}
-use Rattle.model.specs.Claims.{HasMeaning, StructuresAgree, Mark, instruction, held, about, trace, NothingGranted, Settles, ByThread, Faithful, EveryLifeIsFaithful, since}
+use Rattle.model.specs.Claims.{HasMeaning, StructuresAgree, Mark, instruction, held, about, trace, NothingGranted, Settles, ByThread, Faithful}
 use Rattle.model.proofs.Asking.{agreeing_tell}
 use Rattle.model.proofs.Calling.{accepted_refused, ran_refused, advanced_refused}
 use Rattle.lives.proofs.Standing.{Invariant}
@@ -32,6 +32,11 @@ use Rattle.lives.proofs.Pacing.{Paced}
 use Rattle.lives.proofs.Granting.{is_thread_of}
 use Rattle.lives.proofs.Calls.{fault_among, cpu_has, ByCore, disturbed, disturbed_current}
 use Rattle.lives.proofs.Living.{LivedWell, stepped_well}
+use Rattle.lives.specs.Apart.{ByChecks, Stopped, ByCurrent, ByOperation, with_frame, given_thread}
+use Rattle.lives.specs.Whole.{since, WhollyFaithful, EveryLifeIsWhollyFaithful}
+use Rattle.model.specs.declared.state.Frame.{Frame}
+use Rattle.model.specs.Laws.{HeadsAreSlots}
+use Rattle.lives.proofs.Stacks.{mapped_backwards}
 
 nothing_yet : {P : Type 0} {t : ℕ} → ◌≡◌ {A = Option ℕ} None (Some t) → P
 nothing_yet e = let z : ◌≡◌ {A = ℕ} 0 1 = cc in absurd (omega arith)
@@ -75,8 +80,8 @@ module _ {E : Type 0} (meaning : E → Meaning) (told : E → Notice → E → T
     refusal_same e = cc
 
     -- It was not refused by a check.
-    not_by_checks : (checks : List Check) (k : Core × E) (done : Type 0) (c : ℕ) → All (λ (check : Check). eqb (number_of check.fault.refusal) 18 ≡ false) checks
-        → (All (λ (check : Check). check.passes ≡ true) checks → done → HeldOn c) → (o : Result (Unit {0}) Fault) → all_pass checks ≡ o → ByChecks m o (refused fault) k done → HeldOn c
+    not_by_checks : (checks : List Check) (k : Core × E) (done : Type 0) (c : ℕ) → AllByRecursion (λ (check : Check). eqb (number_of check.fault.refusal) 18 ≡ false) checks
+        → (AllByRecursion (λ (check : Check). check.passes ≡ true) checks → done → HeldOn c) → (o : Result (Unit {0}) Fault) → all_pass checks ≡ o → ByChecks m o (refused fault) k done → HeldOn c
     not_by_checks checks k done c others then (Ok u) is d = then (all_passed tt u checks is) d
     not_by_checks checks k done c others then (Err other) is (answer, same) =
         false_true (sym (fault_among (λ f. eqb (number_of f.refusal) 18 ≡ false) tt checks other others is) ∙ ap (λ (f : Fault). eqb (number_of f.refusal) 18) (sym (refusal_same answer)))
@@ -89,12 +94,12 @@ module _ {E : Type 0} (meaning : E → Meaning) (told : E → Notice → E → T
     by_operation c P None d then = absurd d
     by_operation c P (Some operation) d then = then operation d
 
-    granted_not : (c : ℕ) (exists : c < m.0.sizes.cpus) (rest : Core → Core) (k : Core × E) (o : Option Core) → ByCore meaning told answers has l m c inv exists o → Granted-unless-held told answers m c o rest (refused fault) k → HeldOn c
+    granted_not : (c : ℕ) (exists : c < m.0.sizes.cpus) (rest : Core → Core) (k : Core × E) (o : Option Core) → ByCore meaning told answers has l m c inv exists o → Granted told answers m c o rest (refused fault) k → HeldOn c
     granted_not c exists rest k None h g = (h.t, h.on, h.patient)
     granted_not c exists rest k (Some later) h g = accepted_refused g.0
 
     abbrev Changes : ℕ → Option ℕ → Core × E → Type 0
-    Changes c to k = (o : Option Core) × DisturbsCurrent told answers m c (cpu_at m.0 c).current o × Granted-unless-held told answers m c o (given_thread c to) (refused fault) k
+    Changes c to k = (o : Option Core) × DisturbsCurrent told answers m c (cpu_at m.0 c).current o × Granted told answers m c o (given_thread c to) (refused fault) k
 
     signals_not : (t : ℕ) (operation : Operation) (c : ℕ) → l.current c ≡ Some t → (k : Core × E) (o : Option ℕ) → cpu_of m.0 t ≡ o → Signals told answers m t operation o (refused fault) k → HeldOn c
     signals_not t operation c on k None nowhere s = accepted_refused s.0
@@ -149,10 +154,12 @@ module _ {E : Type 0} (meaning : E → Meaning) (told : E → Notice → E → T
     agree = record {
       counters = λ c counter exists below. (inv.holds c exists).counts counter below;
       lists = λ c exists. (inv.holds c exists).listed;
-      rings = λ c exists. (inv.holds c exists).ringed;
+      rings = λ c exists. let ring = (inv.holds c exists).ringed in record { at_most = ring.at_most; slot = ring.slot; up_to_the_tail = ring.up_to_the_tail };
       hands = inv.hands;
-      threads = λ c exists. inv.current c;
     }
+
+    heads : HeadsAreSlots m.0
+    heads c exists = (inv.holds c exists).ringed.head_is_a_slot
 
     -- No call is held on a CPU that has run nothing since boot, a settling or a grant.
     not_held_yet : (c : ℕ) (x : Call) → about l c x ≡ true → since (trace sizes past c) ≡ 0 → (k : Core × E) → Step told answers m x (refused (fault_at Held 0)) k → ⊥
@@ -166,7 +173,7 @@ module _ {E : Type 0} (meaning : E → Meaning) (told : E → Notice → E → T
     not_held c x window before is quiet unsettled k step =
         let paced = so.well.paced c in
         let concerns : about l c x ≡ true =
-        pending_has (λ (y : Call). about l c y ≡ true) x (instruction true ∷ window) before (tt, quiet) (subst (λ marks. All (λ (y : Call). about l c y ≡ true) (pending marks)) is paced.concerned) in
+        pending_has (λ (y : Call). about l c y ≡ true) x (instruction true ∷ window) before (tt, quiet) (subst (λ marks. AllByRecursion (λ (y : Call). about l c y ≡ true) (pending marks)) is paced.concerned) in
         not_held_yet c x concerns (ap since is) k step
 
     answered : (c : ℕ) (o : Option ℕ) → (cpu_at m.0 c).current ≡ o
@@ -177,30 +184,37 @@ module _ {E : Type 0} (meaning : E → Meaning) (told : E → Notice → E → T
     faithful_so : Faithful meaning told answers sizes past m
     faithful_so = record {
       structures_agree = agree;
-      questions-tell = agreeing_tell l m.0 agree;
       settlings_agree = so.settlings;
       conserved = record {
         operations = operations_conserved sizes past;
-        nothing_invented = nothing_invented sizes past;
-        frames = λ t exists. (inv.threads t exists).waits;
-        nowhere_else = inv.nowhere_else;
-        no-other-node = λ node beyond.
-            inv.nodes node
-            ∙ ap (λ b. cond b 1 0)
-            (⊎_elim (λ (none : node ≡ 0). and_left (leb 1 node) (leb node sizes.nodes) (lt-leb 1 node (omega arith))) (λ (more : sizes.nodes < node). and_right (leb 1 node) (leb node sizes.nodes) (lt-leb node sizes.nodes more)) beyond);
+        frames = λ t exists. mapped_backwards (λ (frame : Frame). frame.operation) (take (thread_at m.0 t).depth (thread_at m.0 t).frames) ∙ (inv.threads t exists).waits;
         nodes = λ node low high. inv.nodes node ∙ ap (λ b. cond b 1 0) (and_from (leb 1 node) (leb node sizes.nodes) (le-leb 1 node low) (le-leb node sizes.nodes high));
       };
       progresses = record {
         in_eight = λ c after window before. (so.well.paced c).in_eight after window before;
         in_five_after_held = λ c x after window before. (so.well.paced c).in_five x after window before;
         then_not_held = not_held;
-        not-held-before-an-instruction = not_held_yet;
       };
       only_answered = λ c exists. answered c (cpu_at m.0 c).current refl;
     }
 
-pub every_life_is_faithful : {E : Type 0} (meaning : E → Meaning) (told : E → Notice → E → Type 0) (answers : E → ℕ → ℕ → ℕ → Verdict → Type 0) → EveryLifeIsFaithful meaning told answers
-every_life_is_faithful meaning told answers has sizes past m life =
+    wholly_faithful : WhollyFaithful meaning told answers sizes past m
+    wholly_faithful = record {
+      faithful = faithful_so;
+      threads_agree = λ c exists. inv.current c;
+      heads_are_slots = heads;
+      questions_tell = agreeing_tell l m.0 agree heads;
+      nothing_invented = nothing_invented sizes past;
+      nowhere_else = inv.nowhere_else;
+      no_other_node = λ node beyond.
+          inv.nodes node
+          ∙ ap (λ b. cond b 1 0)
+          (⊎_elim (λ (none : node ≡ 0). and_left (leb 1 node) (leb node sizes.nodes) (lt-leb 1 node (omega arith))) (λ (more : sizes.nodes < node). and_right (leb 1 node) (leb node sizes.nodes) (lt-leb node sizes.nodes more)) beyond);
+      not_held_before_an_instruction = not_held_yet;
+    }
+
+pub every_life_is_wholly_faithful : {E : Type 0} (meaning : E → Meaning) (told : E → Notice → E → Type 0) (answers : E → ℕ → ℕ → ℕ → Verdict → Type 0) → EveryLifeIsWhollyFaithful meaning told answers
+every_life_is_wholly_faithful meaning told answers has sizes past m life =
     let so = lives_well meaning told answers has sizes past m life in
-    subst (λ z. Faithful meaning told answers z past m) so.same_sizes
-    (faithful_so meaning told answers has past m (subst (λ z. LivedWell meaning told answers has z past m) (sym so.same_sizes) so))
+    subst (λ z. WhollyFaithful meaning told answers z past m) so.same_sizes
+    (wholly_faithful meaning told answers has past m (subst (λ z. LivedWell meaning told answers has z past m) (sym so.same_sizes) so))

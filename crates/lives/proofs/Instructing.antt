@@ -1,8 +1,8 @@
 -- One instruction keeps what holds of every machine with a past, and brings the operation nearer to its end.
 use Rattle.std.proofs.Common.{◌≡◌, ℕ, zero, suc, ◌+◌, ◌-◌, ◌*◌, ◌%◌, ◌^◌, ◌<◌, ◌≤◌, Bool, true, false, cond, ◌&&◌, eqb, leb, ◌⊎◌, List, [], ◌∷◌, map, length, get_or, set, Some, None, Option, sym, refl, ap, ◌∙◌, subst, inl, inr, ⊎_elim, mod-eq_of_lt, arith, length-set, get_or-set_other, get_or-set_same}
-use lib.Seq.{set_get_or}
+use lib.Seq.{set-get_or}
 use Rattle.std.proofs.lemmas.Bool.{eq-eqb, ne_eqb, cases_lt, and_parts, leb-true}
-use Rattle.std.specs.List.{AllByRecursion as All}
+use Rattle.std.specs.List.{AllByRecursion}
 use Rattle.words.specs.declared.Word.{Word}
 use Rattle.words.specs.declared.Word.TheVariants.{Enter, ReadCpu, Restart}
 use Rattle.exclusion.specs.declared.meaning.Notice.{Notice}
@@ -17,8 +17,8 @@ use Rattle.model.specs.declared.state.Cpu.{Cpu}
 use Rattle.model.specs.declared.state.Image.{Image}
 use Rattle.model.specs.declared.state.Core.{Core}
 use Rattle.model.specs.declared.state.Settling.{Settling}
-use Rattle.model.specs.State.{no_cpu, no_thread, core_next, put_cpu, put_thread, thread_at, cpu_at, top_frame, dropped, frames-of, descriptor_of_operation, section_of_operation, entry_of}
-use Rattle.model.specs.Words.{Effect, Performed, does, progress, notice_of, settled_as, word_here, performed, performed-as}
+use Rattle.model.specs.State.{no_cpu, no_thread, core_next, put_cpu, put_thread, thread_at, cpu_at, top_frame, dropped, descriptor_of_operation}
+use Rattle.model.specs.Words.{Effect, Performed, progress, notice_of, settled_as, performed}
 use Rattle.model.specs.Ledger.{Ledger, Waiting, Fed, updated, with_waiting, does_whole, settle_top, settle_on}
 use Rattle.model.specs.Claims.{among}
 use Rattle.lives.proofs.Nodes.{updated_here, settled_nodes, hand_found, hand_not_listed}
@@ -28,6 +28,7 @@ use Rattle.lives.proofs.Standing.{TextStands, RestartPoint, at_entry, at_abort, 
 use Rattle.lives.proofs.Keeping.{some_same, once_at_most, Change, after_change, kept}
 use Rattle.lives.proofs.Threads.{TopBecomes, top_is, topped, all_top, top_waits, dropped_stands, dropped_restarts}
 use Rattle.lives.proofs.Wholes.{same_ledger, whole_elsewhere, settled_elsewhere}
+use Rattle.lives.specs.Apart.{frames_of, section_of_operation, entry_of, does, word_here, performed_as}
 
 -- What becomes of an exclusion's meaning that is told something or nothing.
 abbrev pub Becomes : Meaning → Option Notice → Meaning → Type 0
@@ -229,7 +230,7 @@ module _ (l : Ledger) (m : Meaning) (core : Core) (c t : ℕ) (inv : Invariant l
       → (RestartPoint core.image frame × (n.patience c ≡ 0)) ⊎ Midway core.sizes.packets core.image c (cpu_at core c) core.next th → to_go core.image frame + 4 ≡ to_go core.image (top_frame thread)
       → Quiet n (after_change l l m n core c t th (set core.cpus q (cpu_at core q)) core.next)
   moved n th q frame becomes same_operation hand sections patience_else where_to nearer =
-      subst (λ cpus. Quiet n (after_change l l m n core c t th cpus core.next)) (sym (set_get_or core.cpus q no_cpu))
+      subst (λ cpus. Quiet n (after_change l l m n core c t th cpus core.next)) (sym (set-get_or core.cpus q no_cpu))
       (went n th core.cpus core.next frame inv.eight_cpus (λ other differs. refl) refl (inv.holds c c_exists) refl (λ node ne. refl) becomes same_operation hand sections patience_else where_to nearer)
 
   -- The instruction with the word at hand, on the structures of CPU q.
@@ -244,7 +245,7 @@ module _ (l : Ledger) (m : Meaning) (core : Core) (c t : ℕ) (inv : Invariant l
   }
 
   by_word : (n : Meaning) (w : Word) → word_here core.image (top_frame thread).place ≡ Some w → Right n (performed_on thread.q w) → Right n (performed core c t)
-  by_word n w is right = subst (λ o. Right n (performed-as core c t o operation)) (sym is) right
+  by_word n w is right = subst (λ o. Right n (performed_as core c t o operation)) (sym is) right
 
   -- At the entry, at the abort, and at the start.
   abbrev frame_at : ℕ → ℕ → Frame
@@ -348,7 +349,7 @@ module _ (l : Ledger) (m : Meaning) (core : Core) (c t : ℕ) (inv : Invariant l
 
   nothing_waits : {P : Type 0} → l.waiting t ≡ [] → P
   nothing_waits none =
-      let clash : operation ∷ map (λ (f : Frame). f.operation) (frames-of (dropped thread)) ≡ [] =
+      let clash : operation ∷ map (λ (f : Frame). f.operation) (frames_of (dropped thread)) ≡ [] =
       sym (ap (map (λ (f : Frame). f.operation)) (frames_top thread stands.whole some)) ∙ stands.waits ∙ ap (map (λ (w : Waiting). w.operation)) none in
       let z : ◌≡◌ {A = ℕ} 0 1 = cc in absurd (omega arith)
 
@@ -380,7 +381,7 @@ module _ (l : Ledger) (m : Meaning) (core : Core) (c t : ℕ) (inv : Invariant l
       thread_later : ThreadStands core.sizes core.image rest (step_at i).thread
       thread_later = dropped_stands core.sizes core.image top rest thread (step_at i).thread stands_so some s.frames s.depth
 
-      restart : All (RestartPoint core.image) (frames-of (step_at i).thread)
+      restart : AllByRecursion (RestartPoint core.image) (frames_of (step_at i).thread)
       restart = dropped_restarts core.sizes core.image top rest thread (step_at i).thread stands_so some s.frames s.depth
 
       here : thread_at (after_change l (ledger_after rest operation) m n core c t (step_at i).thread (cpus_at i) (step_at i).next) t ≡ (step_at i).thread

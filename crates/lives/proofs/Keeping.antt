@@ -1,19 +1,20 @@
 -- What holds of every machine with a past is kept by a change of one CPU's thread and structures.
 use Rattle.std.proofs.Common.{◌≡◌, ℕ, zero, suc, ◌<◌, ◌≤◌, Bool, true, false, cond, ◌&&◌, eqb, leb, List, [], ◌∷◌, length, get_or, set, Some, sym, ap, ◌∙◌, subst, ⊎_elim, arith, length-set, get_or-set_other, get_or-set_same}
 use Rattle.std.proofs.lemmas.Bool.{cases_eq, eq-eqb}
-use Rattle.std.specs.List.{AllByRecursion as All}
+use Rattle.std.specs.List.{AllByRecursion}
 use Rattle.exclusion.specs.Meaning.{Meaning}
 use Rattle.model.specs.declared.state.Operation.{Operation}
 use Rattle.model.specs.declared.state.Operation.TheVariants.{Add, Push, Pop, Put, Take}
 use Rattle.model.specs.declared.state.Thread.{Thread}
 use Rattle.model.specs.declared.state.Cpu.{Cpu}
 use Rattle.model.specs.declared.state.Core.{Core}
-use Rattle.model.specs.State.{no_cpu, no_thread, thread_at, cpu_at, top_frame, frames-of}
+use Rattle.model.specs.State.{no_cpu, no_thread, thread_at, cpu_at, top_frame}
 use Rattle.model.specs.Ledger.{Ledger}
-use Rattle.model.specs.Claims.{Listed, InRing, among, found}
+use Rattle.model.specs.Claims.{Listed, among, found}
 use Rattle.lives.proofs.Nodes.{hand_not_listed, hands_apart, listed_same}
 use Rattle.lives.proofs.Midway.{Known, Holds, OnlyTheHandsNode}
 use Rattle.lives.proofs.Standing.{RestartPoint, Midway, Standing, idle, resting, restarting, midway, ThreadStands, Invariant}
+use Rattle.lives.specs.Apart.{frames_of, RingFromASlot}
 
 -- An option is one thing.
 pub some_same : {A : Type 0} {x y : A} → Some x ≡ Some y → x ≡ y
@@ -116,7 +117,7 @@ module _ (l k : Ledger) (m n : Meaning) (core : Core) (c t : ℕ) (th : Thread) 
           listed =
               subst (Listed next (cpu_at core other).list) (sym (change.ledger_else.lists other differs))
               (listed_same core.next next (cpu_at core other).list (l.lists other) (λ node among_them. list_stays other node exists among_them) h.listed);
-          ringed = subst (λ ring. InRing core.sizes.packets (cpu_at core other) ring) (sym (change.ledger_else.rings other differs)) h.ringed;
+          ringed = subst (λ ring. RingFromASlot core.sizes.packets (cpu_at core other) ring) (sym (change.ledger_else.rings other differs)) h.ringed;
         })
 
     -- Another CPU's thread is another thread.
@@ -190,5 +191,5 @@ module _ (l k : Ledger) (m n : Meaning) (core : Core) (c t : ℕ) (th : Thread) 
           (λ (differs : other ≡ c → ⊥). standing_else other differs exists (inv.standing other exists)) (cases_eq other c);
       off_cpu = λ s exists off.
           let differs : s ≡ t → ⊥ = λ same. off c (change.ledger_else.current c ∙ change.on ∙ ap Some (sym same)) in
-          subst (λ x. All (RestartPoint core.image) (frames-of x)) (sym (thread_else s differs)) (inv.off_cpu s exists (λ other on. off other (change.ledger_else.current other ∙ on)));
+          subst (λ x. AllByRecursion (RestartPoint core.image) (frames_of x)) (sym (thread_else s differs)) (inv.off_cpu s exists (λ other on. off other (change.ledger_else.current other ∙ on)));
     }

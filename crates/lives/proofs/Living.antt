@@ -1,7 +1,7 @@
 -- Every call keeps what holds of a machine with a past.
 use Rattle.std.proofs.Common.{◌≡◌, ℕ, zero, suc, ◌<◌, Bool, true, false, cond, eqb, List, [], ◌∷◌, ◌++◌, reverse, length, take, replicate, is_some, Some, None, Ok, Err, Option, Result, sym, refl, ap, ◌∙◌, subst, ⊎_elim, arith, get_or-set_other, get_or-set_same}
 use Rattle.std.proofs.lemmas.Bool.{cases_eq, eq-eqb, ne_eqb, eqb-true, ltb-true, not-true}
-use Rattle.std.specs.List.{AllByRecursion as All}
+use Rattle.std.specs.List.{AllByRecursion}
 use Rattle.faults.specs.declared.Fault.{Fault}
 use Rattle.faults.specs.declared.Refusal.TheVariants.{Held}
 use Rattle.faults.specs.Numbering.{fault_at, number_of}
@@ -19,8 +19,8 @@ use Rattle.model.specs.declared.state.Operation.{Operation}
 use Rattle.model.specs.declared.state.Thread.{Thread}
 use Rattle.model.specs.declared.state.Core.{Core}
 use Rattle.model.specs.declared.state.Settling.{Settling}
-use Rattle.model.specs.State.{no_thread, thread_at, cpu_at, frames-of}
-use Rattle.model.specs.Calls.{is_thread, Answered, refused, accepted, ran, advanced, operation_of, has_cpu, has_thread, is_operation, has_no_frame, has_room, cpu_of, not_current, has_current, current_works, has_work, DisturbsCurrent, Granted-unless-held, ByChecks, Performs, Runs, Stopped, ByCurrent, ByOperation, with_frame, given_thread, Signals, Step}
+use Rattle.model.specs.State.{no_thread, thread_at, cpu_at}
+use Rattle.model.specs.Calls.{Granted, Answered, refused, accepted, ran, advanced, operation_of, has_cpu, has_thread, is_operation, has_no_frame, has_room, cpu_of, not_current, has_current, current_works, has_work, DisturbsCurrent, Performs, Runs, Signals, Step}
 use Rattle.model.specs.Ledger.{Ledger, updated, brings}
 use Rattle.model.specs.Ledger.{with_current as ledger-current}
 use Rattle.model.specs.Life.{Event, ledger}
@@ -33,6 +33,7 @@ use Rattle.lives.proofs.Assigning.{assigned, enlisted}
 use Rattle.lives.proofs.Running.{Well, well_marks, noted, ran_well, runs_well, runs_settle}
 use Rattle.lives.proofs.Granting.{granted_well, held_well, enlisted_well, thread_there, not_thread}
 use Rattle.lives.proofs.Calls.{fault_among, operation_valid, no_cpu_has, cpu_has, IsHeld, ByCore, disturbed, disturbed_current}
+use Rattle.lives.specs.Apart.{frames_of, is_thread, ByChecks, Stopped, ByCurrent, ByOperation, with_frame, given_thread}
 
 -- A fault of another number than that of a held call.
 abbrev NotHeld : Fault → Type 0
@@ -90,8 +91,8 @@ module _ {E : Type 0} (meaning : E → Meaning) (told : E → Notice → E → T
     refused_well x fault other = record { same_sizes = refl; well = well_marks meaning l marks _ m (unmarked x fault other) lived_so.well; settlings = (refl, lived_so.settlings) }
 
     -- A call whose checks are tried.
-    checked : (x : Call) (checks : List Check) (r : Answered) (k : Core × E) (done : Type 0) → All (λ (check : Check). NotHeld check.fault) checks
-        → (All (λ (check : Check). check.passes ≡ true) checks → done → After x r k) → (o : Result (Unit {0}) Fault) → all_pass checks ≡ o → ByChecks m o r k done → After x r k
+    checked : (x : Call) (checks : List Check) (r : Answered) (k : Core × E) (done : Type 0) → AllByRecursion (λ (check : Check). NotHeld check.fault) checks
+        → (AllByRecursion (λ (check : Check). check.passes ≡ true) checks → done → After x r k) → (o : Result (Unit {0}) Fault) → all_pass checks ≡ o → ByChecks m o r k done → After x r k
     checked x checks r k done others then (Ok u) is d = then (all_passed tt u checks is) d
     checked x checks r k done others then (Err fault) is (answer, same) =
         subst (λ a. After x a k) (sym answer) (subst (After x (refused fault)) (sym same) (refused_well x fault (fault_among NotHeld tt checks fault others is)))
@@ -116,8 +117,8 @@ module _ {E : Type 0} (meaning : E → Meaning) (told : E → Notice → E → T
         go (restarting s there some point calm) = calm
         go (midway s there some at) = let e = ap (λ x. (thread_at core x).depth) (some_same (sym there ∙ inv.current c ∙ on)) in absurd (omega (arith, rests, some))
 
-    empty_restarts : (t : ℕ) → (thread_at core t).depth ≡ 0 → All (RestartPoint core.image) (frames-of (thread_at core t))
-    empty_restarts t rests = subst (All (RestartPoint core.image)) (sym (ap (λ n. reverse (take n (thread_at core t).frames)) rests)) tt
+    empty_restarts : (t : ℕ) → (thread_at core t).depth ≡ 0 → AllByRecursion (RestartPoint core.image) (frames_of (thread_at core t))
+    empty_restarts t rests = subst (AllByRecursion (RestartPoint core.image)) (sym (ap (λ n. reverse (take n (thread_at core t).frames)) rests)) tt
 
     -- Enlist.
     enlist_accepted : (t : ℕ) (raw : RawOperation) (operation : Operation) → operation_of sizes raw ≡ Some operation → t < sizes.threads → (thread_at core t).depth ≡ 0
@@ -204,7 +205,7 @@ module _ {E : Type 0} (meaning : E → Meaning) (told : E → Notice → E → T
 
     -- Switch and idle.
     abbrev Changes : ℕ → Option ℕ → Answered → Core × E → Type 0
-    Changes c to r k = (o : Option Core) × DisturbsCurrent told answers m c (cpu_at core c).current o × Granted-unless-held told answers m c o (given_thread c to) r k
+    Changes c to r k = (o : Option Core) × DisturbsCurrent told answers m c (cpu_at core c).current o × Granted told answers m c o (given_thread c to) r k
 
     abbrev with_current_ledger : ℕ → Option ℕ → Ledger
     with_current_ledger c to = ledger-current l (updated l.current c to)
@@ -214,7 +215,7 @@ module _ {E : Type 0} (meaning : E → Meaning) (told : E → Notice → E → T
 
     changed : (x : Call) (c : ℕ) (to : Option ℕ) (exists : c < sizes.cpus) → Free to → ((other : ℕ) → about l other x ≡ eqb c other)
         → ((r : Answered) (k : Core × E) → r ≡ accepted → Well meaning (with_current_ledger c to) (noted c (granted ∷ []) marks) k → k.0.sizes ≡ sizes → After x r k)
-        → (r : Answered) (k : Core × E) (o : Option Core) → ByCore meaning told answers has l m c inv exists o → Granted-unless-held told answers m c o (given_thread c to) r k → After x r k
+        → (r : Answered) (k : Core × E) (o : Option Core) → ByCore meaning told answers has l m c inv exists o → Granted told answers m c o (given_thread c to) r k → After x r k
     changed x c to exists free about_it then r k None is_held_lem (answer, same) = subst (λ a. After x a k) (sym answer) (subst (After x (refused (fault_at Held 0))) (sym same) (held_event x c exists is_held_lem about_it))
     changed x c to exists free about_it then r k (Some later) is_calm (answer, core_is, tells) =
         let calm = is_calm k.1 tells in
@@ -279,7 +280,7 @@ module _ {E : Type 0} (meaning : E → Meaning) (told : E → Notice → E → T
         not_thread l t (l.current other) (λ there. differs (inv.on_one_cpu other c t there on)) ∙ sym (ne_eqb c other (λ same. differs (sym same)))) (cases_eq other c)
 
     signal_here : (t : ℕ) (raw : RawOperation) (operation : Operation) (c : ℕ) (exists : c < sizes.cpus) → operation_of sizes raw ≡ Some operation → t < sizes.threads → (thread_at core t).depth < 8 → l.current c ≡ Some t
-        → (r : Answered) (k : Core × E) (o : Option Core) → ByCore meaning told answers has l m c inv exists o → Granted-unless-held told answers m c o (with_frame t operation) r k → After (call.Signal t raw) r k
+        → (r : Answered) (k : Core × E) (o : Option Core) → ByCore meaning told answers has l m c inv exists o → Granted told answers m c o (with_frame t operation) r k → After (call.Signal t raw) r k
     signal_here t raw operation c exists is t_exists room on r k None is_held_lem (answer, same) =
         subst (λ a. After (call.Signal t raw) a k) (sym answer) (subst (After (call.Signal t raw) (refused (fault_at Held 0))) (sym same) (held_event (call.Signal t raw) c exists is_held_lem (about_thread t c on)))
     signal_here t raw operation c exists is t_exists room on r k (Some later) is_calm (answer, core_is, tells) =

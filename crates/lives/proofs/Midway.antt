@@ -15,11 +15,12 @@ use Rattle.model.specs.declared.state.Thread.{Thread}
 use Rattle.model.specs.declared.state.Cpu.{Cpu}
 use Rattle.model.specs.declared.state.Core.{Core}
 use Rattle.model.specs.State.{thread_hand, kind_of_operation, cpu_list, cpu_head, cpu_tail}
-use Rattle.model.specs.Words.{Effect, onward, goes, settles, by_hand, does}
+use Rattle.model.specs.Words.{Effect, onward, goes, settles, by_hand}
 use Rattle.model.specs.Ledger.{Ledger, Outcome, with_rings, updated, stays, pushes, pops, takes, does_whole}
-use Rattle.model.specs.Claims.{Listed, InRing, among}
+use Rattle.model.specs.Claims.{Listed, among}
 use Rattle.model.proofs.Rings.{further}
 use Rattle.lives.proofs.Nodes.{updated_here, updated_else, listed_same}
+use Rattle.lives.specs.Apart.{does, RingFromASlot}
 
 -- The words of an operation's section.
 abbrev pub words_of : Operation → List Word
@@ -71,9 +72,9 @@ listed_some next head [] l h = absurd (omega arith)
 listed_some next head (node ∷ nodes) (some, is, rest) h = (nodes, ap (λ n. n ∷ nodes) (sym is), subst (λ n. Listed next (get_or next n 0) nodes) (sym is) rest)
 
 -- A ring is full exactly if the tail would meet the head, and empty exactly if it does.
-module _ (packets : ℕ) (cpu : Cpu) (ring : List ℕ) (r : InRing packets cpu ring) where
+module _ (packets : ℕ) (cpu : Cpu) (ring : List ℕ) (r : RingFromASlot packets cpu ring) where
   head_itself : cpu.head % (packets + 1) ≡ cpu.head
-  head_itself = mod-eq_of_lt (omega (arith, r.head-is-a-slot))
+  head_itself = mod-eq_of_lt (omega (arith, r.head_is_a_slot))
 
   behind_tail : (cpu.tail + 1) % (packets + 1) ≡ (cpu.head + (length ring + 1)) % (packets + 1)
   behind_tail = ap (λ n. (n + 1) % (packets + 1)) r.up_to_the_tail ∙ mod-add-mod (cpu.head + length ring) (packets + 1) 1 ∙ ap (λ n. n % (packets + 1)) (omega arith)
@@ -111,7 +112,7 @@ pub record Holds (sizes : Sizes) (counters : ℕ → ℕ) (nodes ring : List ℕ
   pub sixteen_slots : length cpu.slots ≡ 16
   pub counts : (counter : ℕ) → counter < sizes.counters → get_or cpu.counters counter 0 ≡ counters counter
   pub listed : Listed next cpu.list nodes
-  pub ringed : InRing sizes.packets cpu ring
+  pub ringed : RingFromASlot sizes.packets cpu ring
 
 -- An operation that the machine can have: the counter is one.
 abbrev pub Valid : Sizes → Operation → Type 0
@@ -203,7 +204,7 @@ module _ (core : Core) (l : Ledger) (here t : ℕ) (thread : Thread) (cpu : Cpu)
         sixteen_slots = holds.sixteen_slots;
         counts = λ other below. counted other below (cases_eq other counter);
         listed = holds.listed;
-        ringed = record { at_most = holds.ringed.at_most; head-is-a-slot = holds.ringed.head-is-a-slot; slot = holds.ringed.slot; up_to_the_tail = holds.ringed.up_to_the_tail };
+        ringed = record { at_most = holds.ringed.at_most; head_is_a_slot = holds.ringed.head_is_a_slot; slot = holds.ringed.slot; up_to_the_tail = holds.ringed.up_to_the_tail };
       };
       nexts = refl;
       next_else = λ node ne. refl;
@@ -228,7 +229,7 @@ module _ (core : Core) (l : Ledger) (here t : ℕ) (thread : Thread) (cpu : Cpu)
       sixteen_slots = holds.sixteen_slots;
       counts = holds.counts;
       listed = subst (Listed next head) (sym (updated_here l.lists here nodes)) listed;
-      ringed = record { at_most = holds.ringed.at_most; head-is-a-slot = holds.ringed.head-is-a-slot; slot = holds.ringed.slot; up_to_the_tail = holds.ringed.up_to_the_tail };
+      ringed = record { at_most = holds.ringed.at_most; head_is_a_slot = holds.ringed.head_is_a_slot; slot = holds.ringed.slot; up_to_the_tail = holds.ringed.up_to_the_tail };
     }
 
     -- PUSH.
@@ -314,14 +315,14 @@ module _ (core : Core) (l : Ledger) (here t : ℕ) (thread : Thread) (cpu : Cpu)
     abbrev ring : List ℕ
     ring = l.rings here
 
-    with_ring : (packets_there : List ℕ) (later : Cpu) → later.counters ≡ cpu.counters → later.list ≡ cpu.list → length later.slots ≡ length cpu.slots → InRing packets later packets_there
+    with_ring : (packets_there : List ℕ) (later : Cpu) → later.counters ≡ cpu.counters → later.list ≡ cpu.list → length later.slots ≡ length cpu.slots → RingFromASlot packets later packets_there
         → Holds core.sizes (l.counters here) (l.lists here) (updated l.rings here packets_there here) later next
     with_ring packets_there later counters list slots ringed = record {
       eight_counters = ap length counters ∙ holds.eight_counters;
       sixteen_slots = slots ∙ holds.sixteen_slots;
       counts = λ counter below. ap (λ cs. get_or cs counter 0) counters ∙ holds.counts counter below;
       listed = subst (λ h. Listed next h (l.lists here)) (sym list) holds.listed;
-      ringed = subst (InRing packets later) (sym (updated_here l.rings here packets_there)) ringed;
+      ringed = subst (RingFromASlot packets later) (sym (updated_here l.rings here packets_there)) ringed;
     }
 
     abbrev with_packet : ℕ → Outcome
@@ -352,7 +353,7 @@ module _ (core : Core) (l : Ledger) (here t : ℕ) (thread : Thread) (cpu : Cpu)
         listed = holds.listed;
         ringed = record {
           at_most = holds.ringed.at_most;
-          head-is-a-slot = holds.ringed.head-is-a-slot;
+          head_is_a_slot = holds.ringed.head_is_a_slot;
           slot = λ i below. get_or-set_other cpu.slots thread.a _ amount 0 (λ same. not_at_tail packets cpu ring holds.ringed i below (same ∙ a)) ∙ holds.ringed.slot i below;
           up_to_the_tail = holds.ringed.up_to_the_tail;
         };
@@ -373,7 +374,7 @@ module _ (core : Core) (l : Ledger) (here t : ℕ) (thread : Thread) (cpu : Cpu)
           holds = with_ring (ring ++ (amount ∷ [])) (cpu_tail cpu ((thread.a + 1) % (packets + 1))) refl refl refl
               (record {
                 at_most = omega arith;
-                head-is-a-slot = holds.ringed.head-is-a-slot;
+                head_is_a_slot = holds.ringed.head_is_a_slot;
                 slot = λ i below.
                     ⊎_elim (λ before. holds.ringed.slot i before ∙ sym (get_or_append_left ring (amount ∷ []) 0 i before))
                     (λ last.
@@ -400,7 +401,7 @@ module _ (core : Core) (l : Ledger) (here t : ℕ) (thread : Thread) (cpu : Cpu)
     takes_right (suc (suc (suc (suc zero)))) (b, apart) = gone Take 4 _ refl refl refl refl (b, apart, ap (λ n. get_or cpu.slots n 0) b)
     takes_right (suc (suc (suc (suc (suc zero))))) (b, apart, w) = taken (l.rings here) refl holds.ringed (filled_ring packets cpu ring holds.ringed apart)
       where
-        taken : (there : List ℕ) → ring ≡ there → InRing packets cpu there → 0 < length there
+        taken : (there : List ℕ) → ring ≡ there → RingFromASlot packets cpu there → 0 < length there
             → SettlesAs (whole Take) (settles thread (cpu_head cpu ((thread.b + 1) % (packets + 1))) next (Got thread.w)) (Got thread.w)
         taken [] is r some = absurd (omega arith)
         taken (packet ∷ rest) is r some =
@@ -414,7 +415,7 @@ module _ (core : Core) (l : Ledger) (here t : ℕ) (thread : Thread) (cpu : Cpu)
               holds = with_ring rest (cpu_head cpu ((thread.b + 1) % (packets + 1))) refl refl refl
                   (record {
                     at_most = omega (arith, r.at_most);
-                    head-is-a-slot = let h = mod-lt (thread.b + 1) {m = packets + 1} (omega arith) in omega arith;
+                    head_is_a_slot = let h = mod-lt (thread.b + 1) {m = packets + 1} (omega arith) in omega arith;
                     slot = λ i below. ap (λ n. get_or cpu.slots n 0) (further_on i) ∙ r.slot (suc i) (omega arith);
                     up_to_the_tail = r.up_to_the_tail ∙ sym (further_on (length rest));
                   });

@@ -1,22 +1,23 @@
 -- The pace of a CPU: what its trace says of how near its thread's operation is to its end.
 use Rattle.std.proofs.Common.{◌≡◌, ℕ, zero, suc, ◌+◌, ◌-◌, ◌*◌, ◌<◌, ◌≤◌, true, false, List, [], ◌∷◌, length, Some, sym, refl, ap, ◌∙◌, subst, arith}
-use Rattle.std.specs.List.{AllByRecursion as All}
+use Rattle.std.specs.List.{AllByRecursion}
 use Rattle.calls.specs.declared.Call.{Call}
 use Rattle.calls.specs.declared.Call.TheVariants as call
 use Rattle.exclusion.specs.Meaning.{Meaning}
 use Rattle.model.specs.declared.state.Operation.{Operation}
 use Rattle.model.specs.declared.state.Thread.{Thread}
 use Rattle.model.specs.declared.state.Core.{Core}
-use Rattle.model.specs.State.{thread_at, cpu_at, top_frame, section_of_operation}
+use Rattle.model.specs.State.{thread_at, cpu_at, top_frame}
 use Rattle.model.specs.Ledger.{Ledger}
-use Rattle.model.specs.Calls.{is_thread}
-use Rattle.model.specs.Claims.{Mark, instruction, held, about, since}
+use Rattle.model.specs.Claims.{Mark, instruction, held, about}
 use Rattle.lives.proofs.Midway.{words_of}
 use Rattle.lives.proofs.Standing.{RestartPoint, at_entry, at_abort, at_start, Invariant}
 use Rattle.lives.proofs.Keeping.{some_same}
 use Rattle.lives.proofs.Instructing.{to_go, from, from_entry, from_abort, from_section, few_words, known_within}
 use Rattle.lives.proofs.Disturbing.{StandsThere, restarts_there, midway_there, stands_there}
 use Rattle.lives.proofs.Traces.{waited, begun, prolonged, pending, InEight, InFive, in_eight_more, in_five_more}
+use Rattle.lives.specs.Apart.{section_of_operation, is_thread}
+use Rattle.lives.specs.Whole.{since}
 
 -- An operation that a CPU's thread works on is one to eight words from its end, and one to five where there is patience.
 module _ (l : Ledger) (m : Meaning) (core : Core) (c t : ℕ) (inv : Invariant l m core) (on : l.current c ≡ Some t) (some : 0 < (thread_at core t).depth) where
@@ -63,7 +64,7 @@ pub record Paced (l : Ledger) (m : Meaning) (core : Core) (c : ℕ) (marks : Lis
   pub pace_held : (t : ℕ) → l.current c ≡ Some t → 0 < (thread_at core t).depth → 0 < waited marks → 4 * waited marks + to_go core.image (top_frame (thread_at core t)) ≤ 24
   pub at_rest : (t : ℕ) → l.current c ≡ Some t → (thread_at core t).depth ≡ 0 → (since marks ≡ 0) × (waited marks ≡ 0)
   pub patient : (t : ℕ) → l.current c ≡ Some t → 0 < m.patience c → 0 < since marks
-  pub concerned : All (λ (x : Call). about l c x ≡ true) (pending marks)
+  pub concerned : AllByRecursion (λ (x : Call). about l c x ≡ true) (pending marks)
 
 -- Whether a call is about a CPU goes by the CPU's thread.
 pub about_same : (l k : Ledger) (c : ℕ) (x : Call) → k.current c ≡ l.current c → about k c x ≡ about l c x
@@ -74,11 +75,11 @@ about_same l k c (call.Switch cpu thread) same = refl
 about_same l k c (call.Idle cpu) same = refl
 about_same l k c (call.Signal thread raw) same = ap (is_thread thread) same
 
-all_mapped : {A : Type 0} (P Q : A → Type 0) (xs : List A) → ((x : A) → P x → Q x) → All P xs → All Q xs
+all_mapped : {A : Type 0} (P Q : A → Type 0) (xs : List A) → ((x : A) → P x → Q x) → AllByRecursion P xs → AllByRecursion Q xs
 all_mapped P Q [] f all = tt
 all_mapped P Q (x ∷ xs) f all = (f x all.0, all_mapped P Q xs f all.1)
 
-pub concerned_same : (l k : Ledger) (c : ℕ) (calls : List Call) → k.current c ≡ l.current c → All (λ (x : Call). about l c x ≡ true) calls → All (λ (x : Call). about k c x ≡ true) calls
+pub concerned_same : (l k : Ledger) (c : ℕ) (calls : List Call) → k.current c ≡ l.current c → AllByRecursion (λ (x : Call). about l c x ≡ true) calls → AllByRecursion (λ (x : Call). about k c x ≡ true) calls
 concerned_same l k c calls same all = all_mapped (λ (x : Call). about l c x ≡ true) (λ (x : Call). about k c x ≡ true) calls (λ x e. about_same l k c x same ∙ e) all
 
 -- A CPU whose thread is not touched.
@@ -137,7 +138,7 @@ paced_on l m n core later c t marks image inv on some still nearer paced = recor
 
 -- A settling, or a call that is granted: the count begins anew.
 pub paced_anew : (l k : Ledger) (n : Meaning) (later : Core) (c : ℕ) (mark : Mark) (marks : List Mark) → InEight marks → InFive marks → since (mark ∷ marks) ≡ 0 → waited (mark ∷ marks) ≡ 0
-    → All (λ (x : Call). about k c x ≡ true) (pending (mark ∷ marks)) → Invariant k n later → n.patience c ≡ 0 → Paced k n later c (mark ∷ marks)
+    → AllByRecursion (λ (x : Call). about k c x ≡ true) (pending (mark ∷ marks)) → Invariant k n later → n.patience c ≡ 0 → Paced k n later c (mark ∷ marks)
 paced_anew l k n later c mark marks eight five none unwaited concerned inv calm = record {
   in_eight = in_eight_more mark marks eight (omega (arith, none));
   in_five = in_five_more mark marks five (omega (arith, unwaited));

@@ -1,6 +1,6 @@
 -- What holds of every machine with a past, in the words of restartable sequences.
 use Rattle.std.proofs.Common.{◌≡◌, ℕ, ◌+◌, ◌*◌, ◌<◌, ◌≤◌, cond, ◌&&◌, leb, List, [], map, length, Some, None}
-use Rattle.std.specs.List.{AllByRecursion as All}
+use Rattle.std.specs.List.{AllByRecursion}
 use Rattle.image.specs.declared.fields.Sizes.{Sizes}
 use Rattle.image.specs.Layout.{Inside}
 use Rattle.words.specs.declared.Word.TheVariants.{Enter, Restart}
@@ -12,12 +12,12 @@ use Rattle.model.specs.declared.state.Thread.{Thread}
 use Rattle.model.specs.declared.state.Cpu.{Cpu}
 use Rattle.model.specs.declared.state.Image.{Image}
 use Rattle.model.specs.declared.state.Core.{Core}
-use Rattle.model.specs.State.{thread_at, cpu_at, top_frame, dropped, frames-of, descriptor_of_operation, section_of_operation, entry_of}
-use Rattle.model.specs.Words.{word_here}
+use Rattle.model.specs.State.{thread_at, cpu_at, top_frame, dropped, descriptor_of_operation}
 use Rattle.model.specs.Ledger.{Ledger, Waiting}
 use Rattle.model.specs.Claims.{found}
 use Rattle.lives.proofs.Stacks.{Whole}
 use Rattle.lives.proofs.Midway.{words_of, word_number, Known, Holds, Valid}
+use Rattle.lives.specs.Apart.{frames_of, section_of_operation, entry_of, word_here}
 
 -- The image of a machine: no address lies in two sections, entries and aborts lie in none, every routine stands in the text,
 -- and all its addresses are possible ones.
@@ -60,9 +60,9 @@ pub data Standing (core : Core) (patience c : ℕ) : Type 0 where
 -- A thread's frames are the operations that wait in it, and all but the top one stand at restart points.
 pub record ThreadStands (sizes : Sizes) (image : Image) (waiting : List Waiting) (thread : Thread) : Type 0 where
   pub whole : Whole thread
-  pub waits : map (λ (frame : Frame). frame.operation) (frames-of thread) ≡ map (λ (w : Waiting). w.operation) waiting
-  pub valid : All (λ (frame : Frame). Valid sizes frame.operation) (frames-of thread)
-  pub below : All (RestartPoint image) (frames-of (dropped thread))
+  pub waits : map (λ (frame : Frame). frame.operation) (frames_of thread) ≡ map (λ (w : Waiting). w.operation) waiting
+  pub valid : AllByRecursion (λ (frame : Frame). Valid sizes frame.operation) (frames_of thread)
+  pub below : AllByRecursion (RestartPoint image) (frames_of (dropped thread))
 
 pub record WithinLimits (sizes : Sizes) : Type 0 where
   pub some_cpus : 1 ≤ sizes.cpus
@@ -88,4 +88,4 @@ pub record Invariant (l : Ledger) (m : Meaning) (core : Core) : Type 0 where
   pub nowhere_else : (t : ℕ) → core.sizes.threads ≤ t → l.waiting t ≡ []
   pub nodes : (node : ℕ) → found core.sizes l node ≡ cond (leb 1 node && leb node core.sizes.nodes) 1 0
   pub standing : (c : ℕ) → c < core.sizes.cpus → Standing core (m.patience c) c
-  pub off_cpu : (t : ℕ) → t < core.sizes.threads → ((c : ℕ) → l.current c ≡ Some t → ⊥) → All (RestartPoint core.image) (frames-of (thread_at core t))
+  pub off_cpu : (t : ℕ) → t < core.sizes.threads → ((c : ℕ) → l.current c ≡ Some t → ⊥) → AllByRecursion (RestartPoint core.image) (frames_of (thread_at core t))

@@ -3,9 +3,10 @@
 use Rattle.std.proofs.Common.{◌≡◌, ℕ, zero, suc, ◌+◌, ◌<◌, ◌≤◌, true, false, ◌⊎◌, List, [], ◌∷◌, ◌++◌, replicate, sym, refl, ap, ◌∙◌, inl, inr, ⊎_elim, arith}
 use mathlib.Core.List.{tail}
 use Rattle.std.proofs.lemmas.Bool.{false≢true}
-use Rattle.std.specs.List.{AllByRecursion as All}
+use Rattle.std.specs.List.{AllByRecursion}
 use Rattle.calls.specs.declared.Call.{Call}
-use Rattle.model.specs.Claims.{Mark, instruction, granted, held, instructions, NothingGranted, is_settling, Settles, since}
+use Rattle.model.specs.Claims.{Mark, instruction, granted, held, instructions, NothingGranted, is_settling, Settles}
+use Rattle.lives.specs.Whole.{since}
 
 -- A wait is 0 where no call waits, else one more than the instructions since the call was held. A held call begins a wait
 -- where there is none; an instruction that does not settle prolongs one where there is one.
@@ -126,7 +127,7 @@ in_five_more mark marks before_it few c [] window before is nothing five =
 in_five_more mark marks before_it few c (newest ∷ after) window before is nothing five = before_it c after window before (ap tail is) nothing five
 
 -- A call that was held, with nothing granted after it, is pending: what holds of all pending calls holds of it.
-pub pending_has : (P : Call → Type 0) (c : Call) (window before : List Mark) → NothingGranted window → All P (pending (window ++ (held c ∷ before))) → P c
+pub pending_has : (P : Call → Type 0) (c : Call) (window before : List Mark) → NothingGranted window → AllByRecursion P (pending (window ++ (held c ∷ before))) → P c
 pending_has P c [] before nothing all = all.0
 pending_has P c (instruction settles ∷ window) before nothing all = pending_has P c window before nothing.1 all
 pending_has P c (granted ∷ window) before nothing all = absurd nothing.0

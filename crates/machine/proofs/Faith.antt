@@ -24,13 +24,13 @@ module _ {E : Type 0} (meaning : E → Meaning) (told : E → Notice → E → T
 
   module _ (m : Core × E) where
     pub counter_told_so : (cpu counter : ℕ) (r : Result ℕ Fault) → r ≡ counter_told m.0 cpu counter → CounterOfTheLedger meaning told answers m cpu counter r
-    counter_told_so cpu counter r is sizes past life c k = is ∙ (every_life_is_faithful meaning told answers has sizes past m life).questions-tell.counters cpu counter c k
+    counter_told_so cpu counter r is sizes past life c k = is ∙ (every_life_is_faithful meaning told answers has sizes past m life).questions_tell.counters cpu counter c k
 
     pub hand_told_so : (thread : ℕ) (r : Result (Option ℕ) Fault) → r ≡ hand_told m.0 thread → HandOfTheLedger meaning told answers m thread r
-    hand_told_so thread r is sizes past life t = is ∙ (every_life_is_faithful meaning told answers has sizes past m life).questions-tell.hands thread t
+    hand_told_so thread r is sizes past life t = is ∙ (every_life_is_faithful meaning told answers has sizes past m life).questions_tell.hands thread t
 
     pub list_item_told_so : (cpu position : ℕ) (r : Result (Option ℕ) Fault) → r ≡ list_item_told m.0 cpu position → ListItemOfTheLedger meaning told answers m cpu position r
-    list_item_told_so cpu position r is sizes past life c = is ∙ (every_life_is_faithful meaning told answers has sizes past m life).questions-tell.list_items cpu position c
+    list_item_told_so cpu position r is sizes past life c = is ∙ (every_life_is_faithful meaning told answers has sizes past m life).questions_tell.list_items cpu position c
 
     pub ring_item_told_so : (cpu position : ℕ) (r : Result (Option ℕ) Fault) → r ≡ ring_item_told m.0 cpu position → RingItemOfTheLedger meaning told answers m cpu position r
-    ring_item_told_so cpu position r is sizes past life c = is ∙ (every_life_is_faithful meaning told answers has sizes past m life).questions-tell.ring_items cpu position c
+    ring_item_told_so cpu position r is sizes past life c = is ∙ (every_life_is_faithful meaning told answers has sizes past m life).questions_tell.ring_items cpu position c

@@ -10,8 +10,9 @@ use Rattle.model.specs.declared.state.Cpu.{Cpu}
 use Rattle.model.specs.declared.state.Image.{Image}
 use Rattle.model.specs.declared.state.Core.{Core}
 use Rattle.model.specs.State.{no_cpu, no_thread, thread_at, cpu_at, top_frame}
-use Rattle.model.specs.Words.{Effect, by_add, by_put, by_hand, does, does_here, word_here, performed}
+use Rattle.model.specs.Words.{Effect, by_add, by_put, by_hand, performed}
 use Rattle.machine.specs.Sound.{Sound}
+use Rattle.lives.specs.Apart.{does, does_here, word_here}
 
 -- What holds of each element, and of the new one, holds of each after a write.
 pub all_set : {A : Type 0} (P : A → Type 0) (xs : List A) (i : ℕ) (x d : A) → P x → ((k : ℕ) → P (get_or xs k d)) → (k : ℕ) → P (get_or (set xs i x) k d)

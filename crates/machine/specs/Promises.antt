@@ -13,9 +13,11 @@ use Rattle.model.specs.declared.state.Operation.{Operation}
 use Rattle.model.specs.declared.state.Core.{Core}
 use Rattle.model.specs.declared.state.Settling.{Settling}
 use Rattle.model.specs.State.{cpu_at, thread_at}
-use Rattle.model.specs.Calls.{Answered, refused, accepted, ran, advanced, operation_of, has_cpu, has_thread, is_operation, has_no_frame, has_room, not_current, has_current, has_work, given_thread, with_frame, Disturbs, DisturbsCurrent, Granted-unless-held}
+use Rattle.model.specs.Calls.{Granted, Answered, refused, accepted, ran, advanced, operation_of, has_cpu, has_thread, is_operation, has_no_frame, has_room, not_current, has_current, has_work, Disturbs, DisturbsCurrent}
 use Rattle.model.specs.Life.{Event, ledger, Life}
-use Rattle.model.specs.Claims.{Faithful, item_at}
+use Rattle.model.specs.Claims.{Faithful}
+use Rattle.lives.specs.Apart.{given_thread, with_frame}
+use Rattle.model.specs.Questions.{item_at}
 
 -- The answers of the coded calls as answers of the definitions.
 abbrev pub accept_answer : Result (Unit {0}) Fault → Answered
@@ -92,8 +94,8 @@ outcome false core = None
 module _ {E : Type 0} (told : E → Notice → E → Type 0) (answers : E → ℕ → ℕ → ℕ → Verdict → Type 0) where
   -- A CPU's thread is disturbed, and the CPU is given another, or none.
   abbrev pub Changes : Core × E → ℕ → Option ℕ → Answered → Core × E → Type 0
-  Changes m cpu to r k = (o : Option Core) × DisturbsCurrent told answers m cpu (cpu_at m.0 cpu).current o × Granted-unless-held told answers m cpu o (given_thread cpu to) r k
+  Changes m cpu to r k = (o : Option Core) × DisturbsCurrent told answers m cpu (cpu_at m.0 cpu).current o × Granted told answers m cpu o (given_thread cpu to) r k
 
   -- A thread that a CPU has is disturbed, and gets an operation on top.
   abbrev pub Interrupts : Core × E → ℕ → ℕ → Operation → Answered → Core × E → Type 0
-  Interrupts m cpu t operation r k = (o : Option Core) × Disturbs told answers m cpu t o × Granted-unless-held told answers m cpu o (with_frame t operation) r k
+  Interrupts m cpu t operation r k = (o : Option Core) × Disturbs told answers m cpu t o × Granted told answers m cpu o (with_frame t operation) r k

@@ -1,7 +1,8 @@
 //! What is asked of a machine: the operation that is meant, the CPU that has a thread, and the items of the structures.
 ghost use Rattle.std.specs.Prelude.{◌≡◌, ◌+◌, ◌%◌, ◌≤◌, nat_eq, slice_index};
-ghost use Rattle.model.specs.Calls.{cpu_among, is_thread, operation_of};
+ghost use Rattle.model.specs.Calls.{operation_of};
 ghost use Rattle.model.specs.Questions.{counter_told, hand_told, list_item_told, reached, ring_item_told};
+ghost use Rattle.lives.specs.Apart.{cpu_among, is_thread};
 
 use crate::perform::{behind, read};
 use calls::RawOperation;

@@ -3,10 +3,11 @@ ghost use Rattle.std.specs.Prelude.{◌≡◌, ℕ, ◌<◌, ◌≤◌, IfOk, Ok
 ghost use Rattle.calls.specs.declared.Call.TheVariants.{Advance, Enlist, Idle, Run, Signal, Switch};
 ghost use Rattle.machine.specs.Promises.{BeginsFaithful, CanBegin, CanChange, Changes, CounterOfTheLedger, HandOfTheLedger, Interrupts, ListItemOfTheLedger, RingItemOfTheLedger, StaysFaithful, Working, accept_answer, advance_answer, enlist_checks, idle_checks, run_answer, signal_checks, switch_checks};
 ghost use Rattle.machine.specs.Sound.{Sound};
-ghost use Rattle.model.specs.Calls.{Boots, Performs, Runs, Step, Stopped, ToldIf};
+ghost use Rattle.model.specs.Calls.{Boots, Performs, Runs, Step, ToldIf};
 ghost use Rattle.model.specs.Questions.{counter_told, hand_told, list_item_told, ring_item_told};
 ghost use Rattle.model.specs.State.{thread_at};
 ghost use Rattle.std.specs.Option.{unwrap_or};
+ghost use Rattle.lives.specs.Apart.{Stopped};
 
 use crate::asking;
 use crate::asking::{cpu_of, operation_of};

@@ -1,9 +1,9 @@
 //! Changes of the machine that calls are made of.
 ghost use Rattle.std.specs.Prelude.{◌≡◌, ℕ, ◌<◌};
-ghost use Rattle.model.specs.Calls.{given_thread, with_frame};
 ghost use Rattle.model.specs.State.{thread_at};
 ghost use Rattle.machine.specs.Sound.{Sound};
 ghost use Rattle.std.specs.Option.{unwrap_or};
+ghost use Rattle.lives.specs.Apart.{given_thread, with_frame};
 
 use crate::perform::{put_frame, section_of};
 use model::state::{Core, Frame, Operation};

@@ -1,8 +1,9 @@
 //! One instruction.
 ghost use Rattle.std.specs.Prelude.{◌≡◌, ℕ, ◌+◌, ◌%◌, ◌<◌, ◌≤◌, slice_index, slice_index_or, slice_set};
-ghost use Rattle.model.specs.State.{descriptor_of_operation, no_frame, section_of_operation, thread_at, top_frame};
-ghost use Rattle.model.specs.Words.{does_here, notice_here, performed, word_here, word_of};
+ghost use Rattle.model.specs.State.{descriptor_of_operation, no_frame, thread_at, top_frame};
+ghost use Rattle.model.specs.Words.{notice_here, performed, word_of};
 ghost use Rattle.image.specs.Layout.{word_at};
+ghost use Rattle.lives.specs.Apart.{section_of_operation, does_here, word_here};
 
 use exclusion::meaning::Notice;
 use image::layout::{Section, word_at};

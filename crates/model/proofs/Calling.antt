@@ -15,13 +15,13 @@ use Rattle.model.specs.Calls.{Answered, refused, accepted, ran, advanced, operat
 use Rattle.model.specs.Laws.{RefusedChangesNothing, OnlyTheStructuresOfQ, OnlyItsOwnThread, Determined}
 
 -- Answers that differ.
-accepted_refused : {P : Type 0} {f : Fault} → refused f ≡ accepted → P
+pub accepted_refused : {P : Type 0} {f : Fault} → refused f ≡ accepted → P
 accepted_refused e = let z : ◌≡◌ {A = ℕ} 0 1 = cc in absurd (omega arith)
 
-ran_refused : {P : Type 0} {f : Fault} {s : Option Settling} → refused f ≡ ran s → P
+pub ran_refused : {P : Type 0} {f : Fault} {s : Option Settling} → refused f ≡ ran s → P
 ran_refused e = let z : ◌≡◌ {A = ℕ} 0 1 = cc in absurd (omega arith)
 
-advanced_refused : {P : Type 0} {f : Fault} {n : ℕ} {s : Option Settling} → refused f ≡ advanced n s → P
+pub advanced_refused : {P : Type 0} {f : Fault} {n : ℕ} {s : Option Settling} → refused f ≡ advanced n s → P
 advanced_refused e = let z : ◌≡◌ {A = ℕ} 0 1 = cc in absurd (omega arith)
 
 module _ {E : Type 0} (told : E → Notice → E → Type 0) (answers : E → ℕ → ℕ → ℕ → Verdict → Type 0) where

@@ -65,7 +65,7 @@ check passes refusal = record { passes = passes; fault = fault_at refusal 0 }
 
 module _ (sizes : Sizes) where
   -- An operation by its three numbers: what an operation lacks must be 0, and a counter is below K.
-  abbrev by_kind : Option Kind → ℕ → ℕ → Option Operation
+  abbrev pub by_kind : Option Kind → ℕ → ℕ → Option Operation
   by_kind None counter amount = None
   by_kind (Some kind.Add) counter amount = cond (nat_lt counter sizes.counters) (Some (Add counter amount)) None
   by_kind (Some kind.Push) counter amount = cond (counter == 0 && amount == 0) (Some Push) None
@@ -110,7 +110,7 @@ module _ (core : Core) where
   abbrev pub has_current : ℕ → Check
   has_current cpu = check (is_some (cpu_at core cpu).current) Idle
 
-  abbrev current_works : Option ℕ → Bool
+  abbrev pub current_works : Option ℕ → Bool
   current_works None = false
   current_works (Some t) = nat_lt 0 (thread_at core t).depth
 

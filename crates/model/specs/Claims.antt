@@ -60,11 +60,11 @@ SettlingsAgree sizes (event ∷ before) = (settling_of event.answer ≡ (fed siz
 -- Conservation.
 
 -- The operations that were brought by calls that were accepted, and those that have settled.
-abbrev with_number : ℕ → Option Operation → List Waiting
+abbrev pub with_number : ℕ → Option Operation → List Waiting
 with_number number None = []
 with_number number (Some operation) = record { call = number; operation = operation } ∷ []
 
-abbrev brought_by : Sizes → ℕ → Call → Fate → List Waiting
+abbrev pub brought_by : Sizes → ℕ → Call → Fate → List Waiting
 brought_by sizes number c was_refused = []
 brought_by sizes number c has_settled = []
 brought_by sizes number (call.Enlist thread raw) was_accepted = with_number number (operation_of sizes raw)
@@ -103,11 +103,11 @@ abbrev pub among : ℕ → List ℕ → ℕ
 among node [] = 0
 among node (n ∷ ns) = cond (n == node) 1 0 + among node ns
 
-abbrev in_hand : ℕ → Option ℕ → ℕ
+abbrev pub in_hand : ℕ → Option ℕ → ℕ
 in_hand node None = 0
 in_hand node (Some n) = cond (n == node) 1 0
 
-abbrev sum_below : ℕ → (ℕ → ℕ) → ℕ
+abbrev pub sum_below : ℕ → (ℕ → ℕ) → ℕ
 sum_below zero f = 0
 sum_below (suc k) f = f k + sum_below k f
 
@@ -146,11 +146,11 @@ about l cpu (call.Idle c) = c == cpu
 about l cpu (call.Signal thread raw) = is_thread thread (l.current cpu)
 
 -- The marks of an event, the newest first. Of an advance only the last instruction may settle.
-abbrev instructions_of : ℕ → Option Settling → List Mark
+abbrev pub instructions_of : ℕ → Option Settling → List Mark
 instructions_of zero settling = []
 instructions_of (suc count) settling = instruction (is_some settling) ∷ replicate count (instruction false)
 
-abbrev marks_of : Call → Answered → List Mark
+abbrev pub marks_of : Call → Answered → List Mark
 marks_of c (refused fault) = cond (number_of fault.refusal == 18) (held c ∷ []) []
 marks_of c accepted = granted ∷ []
 marks_of c (ran settling) = instruction (is_some settling) ∷ []
@@ -161,7 +161,7 @@ abbrev pub trace : Sizes → List Event → ℕ → List Mark
 trace sizes [] cpu = []
 trace sizes (event ∷ before) cpu = cond (about (ledger sizes before) cpu event.call) (marks_of event.call event.answer) [] ++ trace sizes before cpu
 
-abbrev one_instruction : Mark → ℕ
+abbrev pub one_instruction : Mark → ℕ
 one_instruction (instruction settles) = 1
 one_instruction granted = 0
 one_instruction (held c) = 0
@@ -170,7 +170,7 @@ abbrev pub instructions : List Mark → ℕ
 instructions [] = 0
 instructions (mark ∷ marks) = one_instruction mark + instructions marks
 
-abbrev NotGranted : Mark → Type 0
+abbrev pub NotGranted : Mark → Type 0
 NotGranted (instruction settles) = Unit {0}
 NotGranted granted = ⊥
 NotGranted (held c) = Unit {0}
@@ -178,7 +178,7 @@ NotGranted (held c) = Unit {0}
 abbrev pub NothingGranted : List Mark → Type 0
 NothingGranted marks = AllByRecursion NotGranted marks
 
-abbrev is_settling : Mark → Bool
+abbrev pub is_settling : Mark → Bool
 is_settling (instruction settles) = settles
 is_settling granted = false
 is_settling (held c) = false

@@ -48,13 +48,13 @@ pub record Outcome : Type 0 where
   pub answer : Answer
 
 module _ (l : Ledger) where
-  abbrev with_counters : (ℕ → ℕ → ℕ) → Ledger
+  abbrev pub with_counters : (ℕ → ℕ → ℕ) → Ledger
   with_counters x = record { counters = x; lists = l.lists; rings = l.rings; hands = l.hands; current = l.current; waiting = l.waiting }
 
-  abbrev with_lists_and_hands : (ℕ → List ℕ) → (ℕ → Option ℕ) → Ledger
+  abbrev pub with_lists_and_hands : (ℕ → List ℕ) → (ℕ → Option ℕ) → Ledger
   with_lists_and_hands x y = record { counters = l.counters; lists = x; rings = l.rings; hands = y; current = l.current; waiting = l.waiting }
 
-  abbrev with_rings : (ℕ → List ℕ) → Ledger
+  abbrev pub with_rings : (ℕ → List ℕ) → Ledger
   with_rings x = record { counters = l.counters; lists = l.lists; rings = x; hands = l.hands; current = l.current; waiting = l.waiting }
 
   abbrev pub with_current : (ℕ → Option ℕ) → Ledger
@@ -64,22 +64,22 @@ module _ (l : Ledger) where
   with_waiting x = record { counters = l.counters; lists = l.lists; rings = l.rings; hands = l.hands; current = l.current; waiting = x }
 
 module _ (packets : ℕ) (l : Ledger) (thread cpu : ℕ) where
-  abbrev stays : Answer → Outcome
+  abbrev pub stays : Answer → Outcome
   stays answer = record { ledger = l; answer = answer }
 
   -- No node with an empty hand; else the node in hand goes to the front of the list.
-  abbrev pushes : Option ℕ → Outcome
+  abbrev pub pushes : Option ℕ → Outcome
   pushes None = stays NoNode
   pushes (Some node) = record { ledger = with_lists_and_hands l (updated l.lists cpu (node ∷ l.lists cpu)) (updated l.hands thread None); answer = Done }
 
   -- Hand full with a node in hand, else none on an empty list, else the front node goes into the hand.
-  abbrev pops : Option ℕ → List ℕ → Outcome
+  abbrev pub pops : Option ℕ → List ℕ → Outcome
   pops (Some node) nodes = stays HandFull
   pops None [] = stays Empty
   pops None (node ∷ nodes) = record { ledger = with_lists_and_hands l (updated l.lists cpu nodes) (updated l.hands thread (Some node)); answer = Got node }
 
   -- None on no packet, else the front one leaves.
-  abbrev takes : List ℕ → Outcome
+  abbrev pub takes : List ℕ → Outcome
   takes [] = stays Empty
   takes (packet ∷ rest) = record { ledger = with_rings l (updated l.rings cpu rest); answer = Got packet }
 
@@ -119,12 +119,12 @@ abbrev pub quiet : Ledger → Fed
 quiet l = record { ledger = l; settling = None; done = [] }
 
 -- An operation goes on top of those waiting in a thread.
-abbrev brings : Ledger → ℕ → ℕ → Option Operation → Ledger
+abbrev pub brings : Ledger → ℕ → ℕ → Option Operation → Ledger
 brings l number thread None = l
 brings l number thread (Some operation) = with_waiting l (updated l.waiting thread (record { call = number; operation = operation } ∷ l.waiting thread))
 
 -- The top operation of a thread is done whole on a CPU.
-abbrev settle_top : ℕ → Ledger → ℕ → ℕ → List Waiting → Fed
+abbrev pub settle_top : ℕ → Ledger → ℕ → ℕ → List Waiting → Fed
 settle_top packets l thread cpu [] = quiet l
 settle_top packets l thread cpu (top ∷ rest) =
     let o = does_whole packets l thread cpu top.operation in
@@ -134,7 +134,7 @@ settle_top packets l thread cpu (top ∷ rest) =
       done = top ∷ [];
     }
 
-abbrev settle_on : ℕ → Ledger → ℕ → Option ℕ → Fed
+abbrev pub settle_on : ℕ → Ledger → ℕ → Option ℕ → Fed
 settle_on packets l cpu None = quiet l
 settle_on packets l cpu (Some thread) = settle_top packets l thread cpu (l.waiting thread)
 

@@ -1,8 +1,8 @@
-use Rattle.lives.proofs.Faithful.{every_life_is_faithful}
+use Rattle.lives.proofs.Faithful.{every_life_is_wholly_faithful}
 use Rattle.lives.proofs.life_law.Goals as goal
 
 pub returns : goal.returns
 returns g c = record {
-  every_life_is_faithful =
-      every_life_is_faithful g.E.Exclusion.meaning g.E.Exclusion.told g.E.Exclusion.answers (record { shaped = g.met.E.Exclusion.shaped; obeys = g.met.E.Exclusion.obeys; says = g.met.E.Exclusion.says });
+  every_life_is_wholly_faithful =
+      every_life_is_wholly_faithful g.E.Exclusion.meaning g.E.Exclusion.told g.E.Exclusion.answers (record { shaped = g.met.E.Exclusion.shaped; obeys = g.met.E.Exclusion.obeys; says = g.met.E.Exclusion.says });
 }

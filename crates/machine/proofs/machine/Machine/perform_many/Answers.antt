@@ -1,7 +1,8 @@
 use Rattle.std.proofs.Common.{◌≡◌, ◌+◌, Some, None, sym, subst, arith}
-use Rattle.model.specs.Calls.{Stopped, Runs, none}
+use Rattle.model.specs.Calls.{Runs, none}
 use Rattle.machine.proofs.Steps.{one_more}
 use Rattle.machine.proofs.machine.Machine.perform_many.Goals as goal
+use Rattle.lives.specs.Apart.{Stopped}
 
 pub loop-count-init : goal.loop-count-init
 loop-count-init g c = (omega arith, none)
