@@ -18,7 +18,7 @@ use Rattle.model.specs.declared.state.Image.{Image}
 use Rattle.model.specs.declared.state.Core.{Core}
 use Rattle.model.specs.declared.state.Answer.TheVariants.{Done, Got, Empty, Full, NoNode, HandFull}
 use Rattle.model.specs.declared.state.Settling.{Settling}
-use Rattle.model.specs.State.{thread_at, cpu_at, put_thread, put_cpu, cpu_current, core_next, top_frame, with_top, pushed, descriptor_of_operation, thread_q, thread_a, thread_b, thread_w, thread_hand, cpu_counters, cpu_list, cpu_head, cpu_tail, cpu_slots}
+use Rattle.model.specs.State.{thread_at, cpu_at, put_thread, put_cpu, cpu_current, core_next, with_top, pushed, descriptor_of_operation, thread_q, thread_a, thread_b, thread_w, thread_hand, cpu_counters, cpu_list, cpu_head, cpu_tail, cpu_slots}
 use Rattle.model.specs.Words.{Effect, Performed, goes, settles, jumped, by_add, by_put, by_hand, decoded, notice_here, settled_as}
 use Rattle.model.specs.Calls.{Answered, refused, operation_of}
 

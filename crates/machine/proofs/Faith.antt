@@ -11,26 +11,26 @@ use Rattle.model.specs.Calls.{Answered, Step, Boots}
 use Rattle.model.specs.Questions.{counter_told, hand_told, list_item_told, ring_item_told}
 use Rattle.model.specs.Life.{booted, lived}
 use Rattle.model.specs.Claims.{HasMeaning}
-use Rattle.lives.proofs.Faithful.{every_life_is_faithful}
+use Rattle.lives.proofs.Faithful.{every_life_is_wholly_faithful}
 use Rattle.machine.specs.Promises.{BeginsFaithful, StaysFaithful, CounterOfTheLedger, HandOfTheLedger, ListItemOfTheLedger, RingItemOfTheLedger}
 
 module _ {E : Type 0} (meaning : E → Meaning) (told : E → Notice → E → Type 0) (answers : E → ℕ → ℕ → ℕ → Verdict → Type 0) (has : HasMeaning meaning told answers) where
   pub stays : (m : Core × E) (x : Call) (r : Answered) (k : Core × E) → Step told answers m x r k → StaysFaithful meaning told answers m x r k
-  stays m x r k step sizes past life = every_life_is_faithful meaning told answers has sizes (record { call = x; answer = r } ∷ past) k (lived (record { call = x; answer = r }) life step)
+  stays m x r k step sizes past life = every_life_is_wholly_faithful meaning told answers has sizes (record { call = x; answer = r } ∷ past) k (lived (record { call = x; answer = r }) life step)
 
   pub begins : (sizes : Sizes) (signature : ℕ) (table text : List ℕ) (e : E) (m : Core × E) → Boots told answers meaning sizes signature table text e (Ok m) → BeginsFaithful meaning told answers sizes m
   begins sizes signature table text e m boots =
-      let life = booted signature table text e boots in (life, every_life_is_faithful meaning told answers has sizes [] m life)
+      let life = booted signature table text e boots in (life, every_life_is_wholly_faithful meaning told answers has sizes [] m life)
 
   module _ (m : Core × E) where
     pub counter_told_so : (cpu counter : ℕ) (r : Result ℕ Fault) → r ≡ counter_told m.0 cpu counter → CounterOfTheLedger meaning told answers m cpu counter r
-    counter_told_so cpu counter r is sizes past life c k = is ∙ (every_life_is_faithful meaning told answers has sizes past m life).questions_tell.counters cpu counter c k
+    counter_told_so cpu counter r is sizes past life c k = is ∙ (every_life_is_wholly_faithful meaning told answers has sizes past m life).questions_tell.counters cpu counter c k
 
     pub hand_told_so : (thread : ℕ) (r : Result (Option ℕ) Fault) → r ≡ hand_told m.0 thread → HandOfTheLedger meaning told answers m thread r
-    hand_told_so thread r is sizes past life t = is ∙ (every_life_is_faithful meaning told answers has sizes past m life).questions_tell.hands thread t
+    hand_told_so thread r is sizes past life t = is ∙ (every_life_is_wholly_faithful meaning told answers has sizes past m life).questions_tell.hands thread t
 
     pub list_item_told_so : (cpu position : ℕ) (r : Result (Option ℕ) Fault) → r ≡ list_item_told m.0 cpu position → ListItemOfTheLedger meaning told answers m cpu position r
-    list_item_told_so cpu position r is sizes past life c = is ∙ (every_life_is_faithful meaning told answers has sizes past m life).questions_tell.list_items cpu position c
+    list_item_told_so cpu position r is sizes past life c = is ∙ (every_life_is_wholly_faithful meaning told answers has sizes past m life).questions_tell.list_items cpu position c
 
     pub ring_item_told_so : (cpu position : ℕ) (r : Result (Option ℕ) Fault) → r ≡ ring_item_told m.0 cpu position → RingItemOfTheLedger meaning told answers m cpu position r
-    ring_item_told_so cpu position r is sizes past life c = is ∙ (every_life_is_faithful meaning told answers has sizes past m life).questions_tell.ring_items cpu position c
+    ring_item_told_so cpu position r is sizes past life c = is ∙ (every_life_is_wholly_faithful meaning told answers has sizes past m life).questions_tell.ring_items cpu position c

@@ -15,7 +15,7 @@ use Rattle.model.specs.declared.state.Settling.{Settling}
 use Rattle.model.specs.State.{cpu_at, thread_at}
 use Rattle.model.specs.Calls.{Granted, Answered, refused, accepted, ran, advanced, operation_of, has_cpu, has_thread, is_operation, has_no_frame, has_room, not_current, has_current, has_work, Disturbs, DisturbsCurrent}
 use Rattle.model.specs.Life.{Event, ledger, Life}
-use Rattle.model.specs.Claims.{Faithful}
+use Rattle.lives.specs.Whole.{WhollyFaithful}
 use Rattle.lives.specs.Apart.{given_thread, with_frame}
 use Rattle.model.specs.Questions.{item_at}
 
@@ -64,11 +64,11 @@ CanChange checks core cpu (Err fault) = all_pass checks ≡ Err fault
 module _ {E : Type 0} (meaning : E → Meaning) (told : E → Notice → E → Type 0) (answers : E → ℕ → ℕ → ℕ → Verdict → Type 0) where
   -- For every past that leads to the machine before the call, all claims hold of that past with this call, of the machine after.
   abbrev pub StaysFaithful : Core × E → Call → Answered → Core × E → Type 0
-  StaysFaithful m x r k = (sizes : Sizes) (past : List Event) → Life meaning told answers sizes past m → Faithful meaning told answers sizes (record { call = x; answer = r } ∷ past) k
+  StaysFaithful m x r k = (sizes : Sizes) (past : List Event) → Life meaning told answers sizes past m → WhollyFaithful meaning told answers sizes (record { call = x; answer = r } ∷ past) k
 
   -- A booted machine begins a life, and all claims hold of it.
   abbrev pub BeginsFaithful : Sizes → Core × E → Type 0
-  BeginsFaithful sizes m = Life meaning told answers sizes [] m × Faithful meaning told answers sizes [] m
+  BeginsFaithful sizes m = Life meaning told answers sizes [] m × WhollyFaithful meaning told answers sizes [] m
 
   -- For every past that leads to a machine, what a question tells of it is what the ledger of that past holds.
   abbrev pub CounterOfTheLedger : Core × E → ℕ → ℕ → Result ℕ Fault → Type 0

@@ -1,5 +1,6 @@
 //! The machine: boot, the calls and the questions.
 #![tactic(auto)]
+
 mod asking;
 mod boot;
 mod disturb;

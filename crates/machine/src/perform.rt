@@ -147,7 +147,7 @@ pub fn perform(
     packets: u64,
 ) -> Option<Answer>
     requires { image.now.count ≤ 256 }
-    ensures { record { thread = thread.exit.now; cpu = cpu.new; next = next.new; answer = result } ≡ does_here packets image.now here thread.entry.now cpu.old next.old (top_frame thread.entry.now).operation (word_here image.now (top_frame thread.entry.now).place) }
+    ensures { record { thread = thread.new; cpu = cpu.new; next = next.new; answer = result } ≡ does_here packets image.now here thread.old cpu.old next.old (top_frame thread.old).operation (word_here image.now (top_frame thread.old).place) }
 {
     let top = thread.depth.saturating_sub(1);
     let frame = frame_at(&thread.frames, top);
@@ -336,7 +336,7 @@ fn notice_of(cpu: usize, d: usize, answer: Option<Answer>, word: Option<Word>) -
 /// One instruction of a thread on a CPU.
 pub fn step(core: &mut Core, cpu: usize, t: usize) -> Ran
     requires { (t < 16) × (((thread_at core.old t).q < 8) × (core.old.image.count ≤ 256)) }
-    ensures { record { core = core.exit.now; notice = result.notice; settling = result.settling } ≡ performed core.entry.now cpu t }
+    ensures { record { core = core.new; notice = result.notice; settling = result.settling } ≡ performed core.old cpu t }
 {
     let thread = core.threads[t];
     let q = thread.q as usize;

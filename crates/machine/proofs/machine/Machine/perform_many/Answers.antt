@@ -1,4 +1,4 @@
-use Rattle.std.proofs.Common.{◌≡◌, ◌+◌, Some, None, sym, subst, arith}
+use Rattle.std.proofs.Common.{◌+◌, sym, subst, arith}
 use Rattle.model.specs.Calls.{Runs, none}
 use Rattle.machine.proofs.Steps.{one_more}
 use Rattle.machine.proofs.machine.Machine.perform_many.Goals as goal

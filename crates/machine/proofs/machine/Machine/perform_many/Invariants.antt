@@ -1,4 +1,4 @@
-use Rattle.std.proofs.Common.{◌-◌, ◌<◌, ◌≤◌, None}
+use Rattle.std.proofs.Common.{◌-◌, ◌≤◌, None}
 use Rattle.model.specs.Calls.{Runs}
 use Rattle.machine.proofs.machine.Machine.perform_many.Given as goal
 
