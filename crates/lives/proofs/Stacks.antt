@@ -28,7 +28,7 @@ module _ (thread : Thread) (whole : Whole thread) where
       ∙ ap reverse (take_more_set thread.frames (thread.depth - 1) frame (omega (arith, whole.eight_places, whole.at_most_eight)))
       ∙ reverse-append (take (thread.depth - 1) thread.frames) (frame ∷ [])
 
--- What is read off a list from the back on is what is read off it, from the back on.
+-- To change each item of a list and then turn the list round is to turn it round and then change each item.
 pub mapped_backwards : {X Y : Type 0} (f : X → Y) (xs : List X) → reverse (map f xs) ≡ map f (reverse xs)
 mapped_backwards f [] = refl
 mapped_backwards f (x ∷ xs) =

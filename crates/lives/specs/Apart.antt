@@ -1,6 +1,8 @@
--- The definitions of the calls taken apart for the proof: what a word does, by the packets of a ring, the image and the operation,
--- and the parts of calls that need no exclusion. Each says what the definition of the same name in the model says, unfolded; no
--- claim is about these, only the proof of the claims goes through them.
+-- The definitions of the calls taken apart for proofs: what a word does, by the packets of a ring, the image and the operation, and
+-- the parts of calls that need no exclusion. Unfolded, each says what the model says: `does`, `word_here`, `begun`, `Stopped` and
+-- others what its namesake there does, `performed_as` what `performed` does at the word and operation met, `given_thread` what
+-- `with_current` does; a ring from a slot is one of the model's whose head is a slot. No claim and no public promise is about these:
+-- the proof of the claims and the private parts of the machine go through them.
 use Rattle.std.specs.Prelude.{length, ◌<◌, ◌≡◌, ℕ, suc, ◌+◌, ◌-◌, ◌%◌, ◌^◌, ◌≤◌, Bool, false, cond, List, [], ◌∷◌, reverse, take, Some, None, Ok, Err, Option, Result, ◌==◌, slice_index, slice_set}
 use Rattle.faults.specs.declared.Fault.{Fault}
 use Rattle.image.specs.Layout.{word_at}

@@ -12,7 +12,6 @@ use Rattle.model.specs.declared.state.Core.{Core}
 use Rattle.model.specs.State.{cpu_at}
 use Rattle.model.specs.Calls.{refused, Step}
 use Rattle.model.specs.Questions.{QuestionsTell}
-use Rattle.model.specs.Laws.{HeadsAreSlots}
 use Rattle.model.specs.Life.{Event, ledger, Life}
 use Rattle.model.specs.Claims.{Mark, instruction, granted, held, about, trace, occurs, brought, settled, found, HasMeaning, Faithful}
 
@@ -31,7 +30,7 @@ module _ {E : Type 0} (meaning : E → Meaning) (told : E → Notice → E → T
   pub record WhollyFaithful (sizes : Sizes) (past : List Event) (m : Core × E) : Type 0 where
     pub faithful : Faithful meaning told answers sizes past m
     pub threads_agree : (cpu : ℕ) → cpu < sizes.cpus → (cpu_at m.0 cpu).current ≡ (ledger sizes past).current cpu
-    pub heads_are_slots : HeadsAreSlots m.0
+    pub heads_are_slots : (cpu : ℕ) → cpu < sizes.cpus → (cpu_at m.0 cpu).head ≤ sizes.packets
     pub questions_tell : QuestionsTell sizes (ledger sizes past) m.0
     pub nothing_invented : (number : ℕ) → occurs number (brought sizes past) ≡ 0 → (occurs number (settled sizes past) ≡ 0) × ((thread : ℕ) → occurs number ((ledger sizes past).waiting thread) ≡ 0)
     pub nowhere_else : (thread : ℕ) → sizes.threads ≤ thread → (ledger sizes past).waiting thread ≡ []

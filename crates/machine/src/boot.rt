@@ -1,5 +1,5 @@
 //! Boot: a new machine from a job.
-ghost use Rattle.std.specs.Prelude.{◌≡◌, ◌+◌, ◌-◌, ◌≤◌, ◌&&◌, ltb, ◌++◌, length, replicate, IfOk, if◌then◌else◌, MatchResult, nat_le, nat_lt};
+ghost use Rattle.std.specs.Prelude.{◌≡◌, ◌+◌, ◌-◌, ◌≤◌, ◌&&◌, ◌++◌, length, replicate, IfOk, if◌then◌else◌, MatchResult, nat_le, nat_lt};
 ghost use Rattle.exclusion.specs.Meaning.{ToldAll};
 ghost use Rattle.image.specs.Checks.{all_pass};
 ghost use Rattle.machine.specs.Sound.{Sound};
@@ -67,7 +67,7 @@ fn linked(nodes: u64) -> [u64; 256]
 
 /// The first of so many nodes, and 0 where there are none.
 fn first_node(nodes: u64) -> u64
-    ensures { result ≡ (if ltb 0 nodes then 1 else 0) }
+    ensures { result ≡ (if nat_lt 0 nodes then 1 else 0) }
 {
     if nodes > 0 { 1 } else { 0 }
 }

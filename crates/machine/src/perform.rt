@@ -104,7 +104,7 @@ fn word_here(image: &Image, place: u64) -> Option<Word>
     decode(number)
 }
 
-/// Section d of five, numbered from 1, and zeros for any other number.
+/// The section of an operation's routine.
 pub fn section_of(image: &Image, operation: Operation) -> Section
     ensures { result ≡ section_of_operation image.now operation }
 {

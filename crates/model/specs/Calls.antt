@@ -118,7 +118,7 @@ module _ (core : Core) where
   has_work cpu = check (current_works (cpu_at core cpu).current) NoWork
 
   -- A thread that an exclusion sends back: the place is set; nothing is armed any more, unless it goes back to the start of
-  -- the armed section. Outside of all sections nothing is armed any more. Held, it stays.
+  -- the armed section. Outside of all sections nothing is armed any more. Where the call is held, the thread stays.
   abbrev pub sent_back : Thread → ℕ → Thread
   sent_back thread place =
       with_top thread (record {
@@ -140,8 +140,9 @@ module _ (core : Core) where
   with_thread t (Some thread) = Some (put_thread core t thread)
 
 module _ {E : Type 0} (told : E → Notice → E → Type 0) (answers : E → ℕ → ℕ → ℕ → Verdict → Type 0) where
-  -- Disturbing a thread on a CPU: with an empty stack nothing is asked. The outcome is the machine with the thread disturbed,
-  -- or none where it is held.
+  -- To disturb a thread is to take it off its CPU, or to interrupt it by a signal; before that the exclusion is asked what
+  -- becomes of its top frame. With an empty stack nothing is asked. The outcome is the machine with that frame as it then is,
+  -- or none where the call is held.
   abbrev pub Disturbs : Core × E → ℕ → ℕ → Option Core → Type 0
   Disturbs m cpu t outcome =
       let thread = thread_at m.0 t in
@@ -153,7 +154,8 @@ module _ {E : Type 0} (told : E → Notice → E → Type 0) (answers : E → �
   DisturbsCurrent m cpu None outcome = outcome ≡ Some m.0
   DisturbsCurrent m cpu (Some t) outcome = Disturbs m cpu t outcome
 
-  -- A call that is granted on a CPU: refused if the thread there is held; else left is told, and the rest done.
+  -- A switch, an idle, and a signal of a current thread are granted on their CPU if they are accepted: left is told, and the
+  -- rest done. Where the exclusion answered Held, the call is held, which is to say refused.
   abbrev pub Granted : Core × E → ℕ → Option Core → (Core → Core) → Answered → Core × E → Type 0
   Granted m cpu None rest r k = (r ≡ refused (fault_at Held 0)) × (k ≡ m)
   Granted m cpu (Some core) rest r k = (r ≡ accepted) × (k.0 ≡ rest core) × told m.1 (Left cpu) k.1
@@ -202,7 +204,7 @@ module _ {E : Type 0} (told : E → Notice → E → Type 0) (answers : E → �
   abbrev pub with_current : ℕ → Option ℕ → Core → Core
   with_current cpu t core = put_cpu core cpu (cpu_current (cpu_at core cpu) t)
 
-  -- A signal of a thread that is current on a CPU is granted there; of another it is only accepted.
+  -- A signal of a thread that is current on a CPU is granted or held there; of another it is only accepted.
   abbrev pub Signals : Core × E → ℕ → Operation → Option ℕ → Answered → Core × E → Type 0
   Signals m t operation None r k = (r ≡ accepted) × (k.0 ≡ with_frame t operation m.0) × (k.1 ≡ m.1)
   Signals m t operation (Some cpu) r k = (outcome : Option Core) × Disturbs m cpu t outcome × Granted m cpu outcome (with_frame t operation) r k
@@ -229,7 +231,8 @@ module _ {E : Type 0} (told : E → Notice → E → Type 0) (answers : E → �
       UnlessRefused m (has_thread m.0 t ∷ is_operation m.0 raw ∷ has_room m.0 t ∷ []) r k
       (WithOperation m.0 raw (λ operation. Signals m t operation (cpu_of m.0 t) r k))
 
-  -- What boot does, with an exclusion of a meaning: no machine, or a new one, whose exclusion was told left for every CPU.
+  -- What boot does, with an exclusion of a meaning: no machine, and then the exclusion is told nothing; or a new one, whose
+  -- exclusion was told left for every CPU.
   abbrev pub Boots : (E → Meaning) → Sizes → ℕ → List ℕ → List ℕ → E → Result (Core × E) Fault → Type 0
   Boots meaning sizes signature table text e (Ok m) = (Ok m.0 ≡ booted_core sizes table text signature (meaning e).section) × ToldAll told e all_left m.1
   Boots meaning sizes signature table text e (Err fault) = Err fault ≡ booted_core sizes table text signature (meaning e).section

@@ -126,7 +126,7 @@ pub record Conserved (sizes : Sizes) (past : List Event) (core : Core) : Type 0 
 -- Progress.
 
 -- What happens on a CPU: an instruction, which settles or not; a switch, idle or signal that is granted there; one that is
--- refused there because the thread is held.
+-- held there.
 pub data Mark : Type 0 where
   instruction : Bool → Mark
   granted : Mark

@@ -13,6 +13,8 @@ use Rattle.model.specs.declared.state.Thread.{Thread}
 use Rattle.model.specs.declared.state.Cpu.{Cpu}
 use Rattle.model.specs.declared.state.Image.{Image}
 use Rattle.model.specs.declared.state.Core.{Core}
+use Rattle.model.specs.declared.state.Answer.{Answer}
+use Rattle.model.specs.declared.state.Answer.TheVariants.{Done, Got, Empty, Full, NoNode, HandFull}
 
 -- What stands past the end of an array.
 abbrev pub no_frame : Frame
@@ -151,3 +153,20 @@ new_core sizes image = record {
   threads = replicate 16 new_thread;
   next = tabulated 256 (λ node. cond (nat_le 1 node && nat_lt node sizes.nodes) (node + 1) 0);
 }
+
+-- The number of an answer, and the value that comes with it, which is 0 unless something was got.
+abbrev pub answer_number : Answer → ℕ
+answer_number Done = 0
+answer_number (Got value) = 1
+answer_number Empty = 2
+answer_number Full = 3
+answer_number NoNode = 4
+answer_number HandFull = 5
+
+abbrev pub answer_value : Answer → ℕ
+answer_value Done = 0
+answer_value (Got value) = value
+answer_value Empty = 0
+answer_value Full = 0
+answer_value NoNode = 0
+answer_value HandFull = 0

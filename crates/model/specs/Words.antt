@@ -73,7 +73,8 @@ by_hand None f otherwise = otherwise
 by_hand (Some node) f otherwise = f node
 
 -- What a word does for the thread's top operation on the CPU with the number `here`. `cpu` are the structures of CPU q,
--- `next` the nodes' next words. A word that does not belong to the operation only goes on; no life meets one.
+-- `next` the nodes' next words. A word whose operand the operation lacks, or that wants a node from an empty hand, only goes on;
+-- any other does the same for every operation. No life meets a word of another operation.
 module _ (core : Core) (here : ℕ) (thread : Thread) (cpu : Cpu) (next : List ℕ) where
   abbrev operation : Operation
   operation = (top_frame thread).operation

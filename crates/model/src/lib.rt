@@ -21,7 +21,7 @@ pub fn boot_law()
     ensures a_new_machine_agrees_with_a_new_ledger { NewAgrees }
 {}
 
-/// Where the structures and the hands are the ledger's, the questions tell what the ledger holds.
+/// Where the structures and the hands are the ledger's and each ring begins at a slot, the questions tell what the ledger holds.
 pub fn question_law()
     ensures the_questions_tell_what_the_ledger_holds { AgreeingQuestionsTell }
 {}
