@@ -22,13 +22,13 @@ use Rattle.model.specs.declared.state.Core.{Core}
 use Rattle.model.specs.State.{no_cpu, no_thread, put_thread, thread_at, cpu_at, top_frame}
 use Rattle.model.specs.Calls.{by_kind, operation_of, cpu_of, after_verdict, with_thread, Disturbs, DisturbsCurrent}
 use Rattle.model.specs.Ledger.{Ledger, updated}
-use Rattle.model.specs.Claims.{HasMeaning}
+use Rattle.model.specs.Claims.{is_thread, HasMeaning}
 use Rattle.lives.proofs.Nodes.{updated_here, updated_else}
 use Rattle.lives.proofs.Midway.{Valid}
 use Rattle.lives.proofs.Standing.{RestartPoint, Standing, idle, resting, Invariant}
 use Rattle.lives.proofs.Keeping.{some_same}
 use Rattle.lives.proofs.Disturbing.{meaning_changed, Calmed, ByOutcome, by_verdict}
-use Rattle.lives.specs.Apart.{frames_of, is_thread, cpu_among}
+use Rattle.lives.specs.Apart.{frames_of, cpu_among}
 
 -- The fault of checks that do not all pass is that of one of them.
 pub fault_among : {X : Type 0} (P : Fault → Type 0) (x : X) (checks : List Check) (fault : Fault) → AllByRecursion (λ (check : Check). P check.fault) checks → first_failing x checks ≡ Err fault → P fault

@@ -17,7 +17,7 @@ use Rattle.model.specs.declared.state.Operation.{Operation}
 use Rattle.model.specs.declared.state.Core.{Core}
 use Rattle.model.specs.declared.state.Settling.{Settling}
 use Rattle.model.specs.State.{thread_at, cpu_at, top_frame}
-use Rattle.model.specs.Calls.{Granted, refused, ran, advanced, operation_of, has_cpu, has_thread, is_operation, has_room, cpu_of, not_current, has_current, has_work, DisturbsCurrent, Performs, Runs, Signals, Step}
+use Rattle.model.specs.Calls.{ByChecks, Stopped, ByCurrent, ByOperation, Granted, refused, ran, advanced, operation_of, has_cpu, has_thread, is_operation, has_room, cpu_of, not_current, has_current, has_work, DisturbsCurrent, Performs, Runs, Signals, Step}
 use Rattle.model.specs.Ledger.{Ledger, new_ledger}
 use Rattle.model.specs.Life.{Event, ledger, Life, booted, lived}
 use Rattle.model.specs.Claims.{HasMeaning, StructuresAgree, Mark, instruction, held, about, trace, NothingGranted, Settles, ByThread, Faithful}
@@ -32,7 +32,7 @@ use Rattle.lives.proofs.Pacing.{Paced}
 use Rattle.lives.proofs.Granting.{is_thread_of}
 use Rattle.lives.proofs.Calls.{fault_among, cpu_has, ByCore, disturbed, disturbed_current}
 use Rattle.lives.proofs.Living.{LivedWell, stepped_well}
-use Rattle.lives.specs.Apart.{ByChecks, Stopped, ByCurrent, ByOperation, with_frame, given_thread}
+use Rattle.lives.specs.Apart.{with_frame, given_thread}
 use Rattle.lives.specs.Whole.{since, WhollyFaithful, EveryLifeIsWhollyFaithful}
 use Rattle.model.specs.declared.state.Frame.{Frame}
 use Rattle.model.specs.Laws.{HeadsAreSlots}
@@ -81,16 +81,16 @@ module _ {E : Type 0} (meaning : E → Meaning) (told : E → Notice → E → T
 
     -- It was not refused by a check.
     not_by_checks : (checks : List Check) (k : Core × E) (done : Type 0) (c : ℕ) → AllByRecursion (λ (check : Check). eqb (number_of check.fault.refusal) 18 ≡ false) checks
-        → (AllByRecursion (λ (check : Check). check.passes ≡ true) checks → done → HeldOn c) → (o : Result (Unit {0}) Fault) → all_pass checks ≡ o → ByChecks m o (refused fault) k done → HeldOn c
+        → (AllByRecursion (λ (check : Check). check.passes ≡ true) checks → done → HeldOn c) → (o : Result (Unit {0}) Fault) → all_pass checks ≡ o → ByChecks told answers m o (refused fault) k done → HeldOn c
     not_by_checks checks k done c others then (Ok u) is d = then (all_passed tt u checks is) d
     not_by_checks checks k done c others then (Err other) is (answer, same) =
         false_true (sym (fault_among (λ f. eqb (number_of f.refusal) 18 ≡ false) tt checks other others is) ∙ ap (λ (f : Fault). eqb (number_of f.refusal) 18) (sym (refusal_same answer)))
 
-    by_current : (c : ℕ) (P : ℕ → Type 0) (o : Option ℕ) → ByCurrent o P → ((t : ℕ) → P t → HeldOn c) → HeldOn c
+    by_current : (c : ℕ) (P : ℕ → Type 0) (o : Option ℕ) → ByCurrent told answers o P → ((t : ℕ) → P t → HeldOn c) → HeldOn c
     by_current c P None d then = absurd d
     by_current c P (Some t) d then = then t d
 
-    by_operation : (c : ℕ) (P : Operation → Type 0) (o : Option Operation) → ByOperation o P → ((operation : Operation) → P operation → HeldOn c) → HeldOn c
+    by_operation : (c : ℕ) (P : Operation → Type 0) (o : Option Operation) → ByOperation told answers o P → ((operation : Operation) → P operation → HeldOn c) → HeldOn c
     by_operation c P None d then = absurd d
     by_operation c P (Some operation) d then = then operation d
 
@@ -117,7 +117,7 @@ module _ {E : Type 0} (meaning : E → Meaning) (told : E → Notice → E → T
     held_where (call.Advance cpu n) k step c about_it =
         not_by_checks (has_cpu m.0 cpu ∷ has_current m.0 cpu ∷ has_work m.0 cpu ∷ []) k _ c (refl, (refl, (refl, tt)))
         (λ passed d.
-        by_current c (λ t. (count : ℕ) × (settling : Option Settling) × (refused fault ≡ advanced count settling) × Stopped n count settling × Runs told answers cpu t count settling m k) (cpu_at m.0 cpu).current d
+        by_current c (λ t. (count : ℕ) × (settling : Option Settling) × (refused fault ≡ advanced count settling) × Stopped told answers n count settling × Runs told answers cpu t count settling m k) (cpu_at m.0 cpu).current d
         (λ t p. advanced_refused p.2)) _ refl step
     held_where (call.Switch cpu t) k step c about_it =
         not_by_checks (has_cpu m.0 cpu ∷ has_thread m.0 t ∷ not_current m.0 t ∷ []) k (Changes cpu (Some t) k) c (refl, (refl, (refl, tt)))

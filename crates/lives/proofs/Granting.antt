@@ -6,12 +6,11 @@ use Rattle.exclusion.specs.Meaning.{Meaning}
 use Rattle.model.specs.declared.state.Core.{Core}
 use Rattle.model.specs.State.{thread_at}
 use Rattle.model.specs.Ledger.{Ledger}
-use Rattle.model.specs.Claims.{Mark, granted, held, about}
+use Rattle.model.specs.Claims.{is_thread, Mark, granted, held, about}
 use Rattle.lives.proofs.Standing.{Invariant}
 use Rattle.lives.proofs.Keeping.{some_same}
 use Rattle.lives.proofs.Pacing.{Paced, untouched, paced_anew, paced_held, paced_enlisted}
 use Rattle.lives.proofs.Running.{Well, noted, noted_here, noted_else}
-use Rattle.lives.specs.Apart.{is_thread}
 
 module _ {E : Type 0} (meaning : E → Meaning) (l : Ledger) (marks : ℕ → List Mark) (m : Core × E) (well : Well meaning l marks m) where
   -- Granted on a CPU: only its thread and its patience change.

@@ -20,11 +20,11 @@ use Rattle.model.specs.declared.state.Thread.{Thread}
 use Rattle.model.specs.declared.state.Core.{Core}
 use Rattle.model.specs.declared.state.Settling.{Settling}
 use Rattle.model.specs.State.{no_thread, thread_at, cpu_at}
-use Rattle.model.specs.Calls.{Granted, Answered, refused, accepted, ran, advanced, operation_of, has_cpu, has_thread, is_operation, has_no_frame, has_room, cpu_of, not_current, has_current, current_works, has_work, DisturbsCurrent, Performs, Runs, Signals, Step}
+use Rattle.model.specs.Calls.{ByChecks, Stopped, ByCurrent, ByOperation, Granted, Answered, refused, accepted, ran, advanced, operation_of, has_cpu, has_thread, is_operation, has_no_frame, has_room, cpu_of, not_current, has_current, current_works, has_work, DisturbsCurrent, Performs, Runs, Signals, Step}
 use Rattle.model.specs.Ledger.{Ledger, updated, brings}
 use Rattle.model.specs.Ledger.{with_current as ledger-current}
 use Rattle.model.specs.Life.{Event, ledger}
-use Rattle.model.specs.Claims.{HasMeaning, Mark, instruction, granted, held, about, trace, SettlingsAgree, instructions_of}
+use Rattle.model.specs.Claims.{is_thread, HasMeaning, Mark, instruction, granted, held, about, trace, SettlingsAgree, instructions_of}
 use Rattle.lives.proofs.Nodes.{updated_else}
 use Rattle.lives.proofs.Midway.{Valid}
 use Rattle.lives.proofs.Standing.{RestartPoint, Standing, idle, resting, restarting, midway, Invariant}
@@ -33,7 +33,7 @@ use Rattle.lives.proofs.Assigning.{assigned, enlisted}
 use Rattle.lives.proofs.Running.{Well, well_marks, noted, ran_well, runs_well, runs_settle}
 use Rattle.lives.proofs.Granting.{granted_well, held_well, enlisted_well, thread_there, not_thread}
 use Rattle.lives.proofs.Calls.{fault_among, operation_valid, no_cpu_has, cpu_has, IsHeld, ByCore, disturbed, disturbed_current}
-use Rattle.lives.specs.Apart.{frames_of, is_thread, ByChecks, Stopped, ByCurrent, ByOperation, with_frame, given_thread}
+use Rattle.lives.specs.Apart.{frames_of, with_frame, given_thread}
 
 -- A fault of another number than that of a held call.
 abbrev NotHeld : Fault → Type 0
@@ -92,7 +92,7 @@ module _ {E : Type 0} (meaning : E → Meaning) (told : E → Notice → E → T
 
     -- A call whose checks are tried.
     checked : (x : Call) (checks : List Check) (r : Answered) (k : Core × E) (done : Type 0) → AllByRecursion (λ (check : Check). NotHeld check.fault) checks
-        → (AllByRecursion (λ (check : Check). check.passes ≡ true) checks → done → After x r k) → (o : Result (Unit {0}) Fault) → all_pass checks ≡ o → ByChecks m o r k done → After x r k
+        → (AllByRecursion (λ (check : Check). check.passes ≡ true) checks → done → After x r k) → (o : Result (Unit {0}) Fault) → all_pass checks ≡ o → ByChecks told answers m o r k done → After x r k
     checked x checks r k done others then (Ok u) is d = then (all_passed tt u checks is) d
     checked x checks r k done others then (Err fault) is (answer, same) =
         subst (λ a. After x a k) (sym answer) (subst (After x (refused fault)) (sym same) (refused_well x fault (fault_among NotHeld tt checks fault others is)))
@@ -134,7 +134,7 @@ module _ {E : Type 0} (meaning : E → Meaning) (told : E → Notice → E → T
       settlings = (refl, lived_so.settlings);
     }
 
-    by_operation : (x : Call) (r : Answered) (k : Core × E) (P : Operation → Type 0) (raw : RawOperation) (o : Option Operation) → operation_of sizes raw ≡ o → ByOperation o P
+    by_operation : (x : Call) (r : Answered) (k : Core × E) (P : Operation → Type 0) (raw : RawOperation) (o : Option Operation) → operation_of sizes raw ≡ o → ByOperation told answers o P
         → ((operation : Operation) → operation_of sizes raw ≡ Some operation → P operation → After x r k) → After x r k
     by_operation x r k P raw None is d then = absurd d
     by_operation x r k P raw (Some operation) is d then = then operation is d
@@ -162,7 +162,7 @@ module _ {E : Type 0} (meaning : E → Meaning) (told : E → Notice → E → T
         let settled = ran_well meaning told answers has l marks m c t lived_so.well on some (Some s) k p in
         record { same_sizes = ap (λ (x : Core). x.sizes) p.0; well = settled.later; settlings = (sym settled.settling, lived_so.settlings) }
 
-    by_current : (x : Call) (r : Answered) (k : Core × E) (P : ℕ → Type 0) (c : ℕ) (o : Option ℕ) → (cpu_at core c).current ≡ o → ByCurrent o P
+    by_current : (x : Call) (r : Answered) (k : Core × E) (P : ℕ → Type 0) (c : ℕ) (o : Option ℕ) → (cpu_at core c).current ≡ o → ByCurrent told answers o P
         → ((t : ℕ) → (cpu_at core c).current ≡ Some t → P t → After x r k) → After x r k
     by_current x r k P c None is d then = absurd d
     by_current x r k P c (Some t) is d then = then t is d
@@ -198,7 +198,7 @@ module _ {E : Type 0} (meaning : E → Meaning) (told : E → Notice → E → T
         checked (call.Advance c n) (has_cpu core c ∷ has_current core c ∷ has_work core c ∷ []) r k _ (refl, (refl, (refl, tt)))
         (λ passed d.
         by_current (call.Advance c n) r k
-        (λ t. (count : ℕ) × (settling : Option Settling) × (r ≡ advanced count settling) × Stopped n count settling × Runs told answers c t count settling m k) c (cpu_at core c).current refl d
+        (λ t. (count : ℕ) × (settling : Option Settling) × (r ≡ advanced count settling) × Stopped told answers n count settling × Runs told answers c t count settling m k) c (cpu_at core c).current refl d
         (λ t is p.
         subst (λ a. After (call.Advance c n) a k) (sym p.2) (advanced_event c n t p.0 p.1 k (sym (inv.current c) ∙ is) (works c t is passed.1.1.0) p.4)))
         _ refl step

@@ -9,14 +9,14 @@ use Rattle.model.specs.declared.state.Thread.{Thread}
 use Rattle.model.specs.declared.state.Core.{Core}
 use Rattle.model.specs.State.{thread_at, cpu_at, top_frame}
 use Rattle.model.specs.Ledger.{Ledger}
-use Rattle.model.specs.Claims.{Mark, instruction, held, about}
+use Rattle.model.specs.Claims.{is_thread, Mark, instruction, held, about}
 use Rattle.lives.proofs.Midway.{words_of}
 use Rattle.lives.proofs.Standing.{RestartPoint, at_entry, at_abort, at_start, Invariant}
 use Rattle.lives.proofs.Keeping.{some_same}
 use Rattle.lives.proofs.Instructing.{to_go, from, from_entry, from_abort, from_section, few_words, known_within}
 use Rattle.lives.proofs.Disturbing.{StandsThere, restarts_there, midway_there, stands_there}
 use Rattle.lives.proofs.Traces.{waited, begun, prolonged, pending, InEight, InFive, in_eight_more, in_five_more}
-use Rattle.lives.specs.Apart.{section_of_operation, is_thread}
+use Rattle.lives.specs.Apart.{section_of_operation}
 use Rattle.lives.specs.Whole.{since}
 
 -- An operation that a CPU's thread works on is one to eight words from its end, and one to five where there is patience.

@@ -1,16 +1,13 @@
 -- The definitions of the calls taken apart for proofs: what a word does, by the packets of a ring, the image and the operation, and
--- the parts of calls that need no exclusion. Unfolded, each says what the model says: `does`, `word_here`, `begun`, `Stopped` and
--- others what its namesake there does, `performed_as` what `performed` does at the word and operation met, `given_thread` what
--- `with_current` does; a ring from a slot is one of the model's whose head is a slot. No claim and no public promise is about these:
--- the proof of the claims and the private parts of the machine go through them.
-use Rattle.std.specs.Prelude.{length, ◌<◌, ◌≡◌, ℕ, suc, ◌+◌, ◌-◌, ◌%◌, ◌^◌, ◌≤◌, Bool, false, cond, List, [], ◌∷◌, reverse, take, Some, None, Ok, Err, Option, Result, ◌==◌, slice_index, slice_set}
-use Rattle.faults.specs.declared.Fault.{Fault}
+-- the changes that need no exclusion. That they are the model's is the law at the end. No other claim and no public promise is about
+-- these: the proof of the claims and the private parts of the machine go through them.
+use Rattle.std.specs.Prelude.{length, ◌<◌, ◌≡◌, ℕ, suc, ◌+◌, ◌-◌, ◌%◌, ◌^◌, ◌≤◌, cond, List, [], ◌∷◌, reverse, take, Some, None, Option, ◌==◌, slice_index, slice_set}
 use Rattle.image.specs.Layout.{word_at}
 use Rattle.image.specs.declared.layout.Section.{Section}
-use Rattle.image.specs.Checks.{Check, all_pass}
 use Rattle.words.specs.declared.Word.{Word}
 use Rattle.words.specs.declared.Word.TheVariants.{Enter, ReadCpu, LoadCounter, AddAmount, StoreCounter, NeedNode, NeedEmptyHand, LoadListHead, LinkNode, PushNode, NeedListed, LoadNext, PopNode, LoadTail, LoadRingHead, NeedRoom, StorePacket, AdvanceTail, NeedPacket, LoadPacket, AdvanceRingHead, Restart}
-use Rattle.calls.specs.declared.RawOperation.{RawOperation}
+use Rattle.exclusion.specs.declared.meaning.Notice.{Notice}
+use Rattle.exclusion.specs.declared.meaning.Verdict.{Verdict}
 use Rattle.exclusion.specs.Parts.{section_at}
 use Rattle.model.specs.declared.state.Operation.{Operation}
 use Rattle.model.specs.declared.state.Frame.{Frame}
@@ -19,10 +16,10 @@ use Rattle.model.specs.declared.state.Cpu.{Cpu}
 use Rattle.model.specs.declared.state.Image.{Image}
 use Rattle.model.specs.declared.state.Core.{Core}
 use Rattle.model.specs.declared.state.Answer.TheVariants.{Done, Got, Empty, Full, NoNode, HandFull}
-use Rattle.model.specs.declared.state.Settling.{Settling}
-use Rattle.model.specs.State.{thread_at, cpu_at, put_thread, put_cpu, cpu_current, core_next, with_top, pushed, descriptor_of_operation, thread_q, thread_a, thread_b, thread_w, thread_hand, cpu_counters, cpu_list, cpu_head, cpu_tail, cpu_slots}
-use Rattle.model.specs.Words.{Effect, Performed, goes, settles, jumped, by_add, by_put, by_hand, decoded, notice_here, settled_as}
-use Rattle.model.specs.Calls.{Answered, refused, operation_of}
+use Rattle.model.specs.State.{top_frame, thread_at, cpu_at, put_thread, put_cpu, cpu_current, core_next, with_top, pushed, descriptor_of_operation, thread_q, thread_a, thread_b, thread_w, thread_hand, cpu_counters, cpu_list, cpu_head, cpu_tail, cpu_slots}
+use Rattle.model.specs.Words.{Effect, Performed, goes, settles, jumped, by_add, by_put, by_hand, decoded, notice_here, settled_as, performed}
+use Rattle.model.specs.Calls as calls
+use Rattle.model.specs.Claims.{is_thread}
 
 -- The frames of a thread's stack, the top one first.
 abbrev pub frames_of : Thread → List Frame
@@ -48,7 +45,7 @@ word_here image place = decoded (word_at (take image.count image.words) place)
 -- any other does the same for every operation. No life meets a word of another operation.
 module _ (packets : ℕ) (image : Image) (here : ℕ) (thread : Thread) (cpu : Cpu) (next : List ℕ) (operation : Operation) where
   -- the slot behind a slot of the ring
-  abbrev pub behind : ℕ → ℕ
+  abbrev behind : ℕ → ℕ
   behind slot = (slot + 1) % (packets + 1)
 
   abbrev pub does : Word → Effect
@@ -87,10 +84,10 @@ module _ (packets : ℕ) (image : Image) (here : ℕ) (thread : Thread) (cpu : C
 -- By the word at its place and by its operation together. Word 2 sets q, and structures are those of CPU q; every other word
 -- leaves q.
 module _ (core : Core) (cpu t : ℕ) where
-  abbrev pub running : Thread
+  abbrev running : Thread
   running = thread_at core t
 
-  abbrev pub effect : Option Word → Operation → Effect
+  abbrev effect : Option Word → Operation → Effect
   effect word operation = does_here core.sizes.packets core.image cpu running (cpu_at core running.q) core.next operation word
 
   abbrev pub performed_as : Option Word → Operation → Performed
@@ -100,39 +97,10 @@ module _ (core : Core) (cpu t : ℕ) where
     settling = settled_as t operation cpu (effect word operation).answer;
   }
 
--- Whether what a CPU has is the thread t, and the first of some CPUs, counted from c on, that has it.
-abbrev pub is_thread : ℕ → Option ℕ → Bool
-is_thread t None = false
-is_thread t (Some s) = s == t
-
+-- The first of some CPUs, counted from c on, that has the thread t.
 abbrev pub cpu_among : List Cpu → ℕ → ℕ → Option ℕ
 cpu_among [] c t = None
 cpu_among (cpu ∷ cpus) c t = cond (is_thread t cpu.current) (Some c) (cpu_among cpus (suc c) t)
-
--- A call whose checks are tried in order: refused, which leaves all as it was, or done.
-abbrev pub ByChecks : {E : Type 0} → Core × E → Result (Unit {0}) Fault → Answered → Core × E → Type 0 → Type 0
-ByChecks m (Ok u) r k done = done
-ByChecks m (Err fault) r k done = (r ≡ refused fault) × (k ≡ m)
-
-abbrev pub UnlessRefused : {E : Type 0} → Core × E → List Check → Answered → Core × E → Type 0 → Type 0
-UnlessRefused m checks r k done = ByChecks m (all_pass checks) r k done
-
--- By the thread that a CPU has, and by the operation that three numbers stand for, where checks have found one.
-abbrev pub ByCurrent : Option ℕ → (ℕ → Type 0) → Type 0
-ByCurrent None P = ⊥
-ByCurrent (Some t) P = P t
-
-abbrev pub ByOperation : Option Operation → (Operation → Type 0) → Type 0
-ByOperation None P = ⊥
-ByOperation (Some operation) P = P operation
-
-abbrev pub WithOperation : Core → RawOperation → (Operation → Type 0) → Type 0
-WithOperation core raw P = ByOperation (operation_of core.sizes raw) P
-
--- An advance runs until n instructions are done or one has settled.
-abbrev pub Stopped : ℕ → ℕ → Option Settling → Type 0
-Stopped n count None = count ≡ n
-Stopped n count (Some settling) = count ≤ n
 
 -- A thread with a frame more, which begins an operation; a CPU that is given a thread, or none.
 abbrev pub with_frame : ℕ → Operation → Core → Core
@@ -147,3 +115,11 @@ pub record RingFromASlot (packets : ℕ) (cpu : Cpu) (ring : List ℕ) : Type 0 
   pub head_is_a_slot : cpu.head ≤ packets
   pub slot : (i : ℕ) → i < length ring → slice_index cpu.slots ((cpu.head + i) % (packets + 1)) ≡ slice_index ring i
   pub up_to_the_tail : cpu.tail ≡ (cpu.head + length ring) % (packets + 1)
+
+-- Taken apart, the calls are the model's: an instruction does what its word does for its operation, a thread gets its frame, a CPU its
+-- thread, and the CPU of a thread is the first that has it.
+pub record TakenApart {E : Type 0} (told : E → Notice → E → Type 0) (answers : E → ℕ → ℕ → ℕ → Verdict → Type 0) : Type 0 where
+  pub an_instruction : (core : Core) (cpu t : ℕ) → performed core cpu t ≡ performed_as core cpu t (word_here core.image (top_frame (thread_at core t)).place) (top_frame (thread_at core t)).operation
+  pub a_frame : (t : ℕ) (operation : Operation) (core : Core) → calls.with_frame told answers t operation core ≡ with_frame t operation core
+  pub a_thread : (cpu : ℕ) (t : Option ℕ) (core : Core) → calls.with_current told answers cpu t core ≡ given_thread cpu t core
+  pub the_cpu : (core : Core) (t : ℕ) → calls.cpu_of core t ≡ cpu_among core.cpus 0 t

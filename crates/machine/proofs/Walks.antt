@@ -4,7 +4,8 @@ use Rattle.std.proofs.lemmas.List.{drop_more, drop_all}
 use Rattle.model.specs.declared.state.Cpu.{Cpu}
 use Rattle.model.specs.State.{no_cpu}
 use Rattle.model.specs.Questions.{reached}
-use Rattle.lives.specs.Apart.{cpu_among, is_thread}
+use Rattle.lives.specs.Apart.{cpu_among}
+use Rattle.model.specs.Claims.{is_thread}
 
 -- The CPUs from number i on: the first of them has the thread, or the others decide; and behind the last there is none.
 module _ (cpus : List Cpu) (i t : ℕ) where

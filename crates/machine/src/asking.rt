@@ -2,7 +2,8 @@
 ghost use Rattle.std.specs.Prelude.{◌≡◌, ◌+◌, ◌%◌, ◌≤◌, nat_eq, slice_index};
 ghost use Rattle.model.specs.Calls.{operation_of};
 ghost use Rattle.model.specs.Questions.{counter_told, hand_told, list_item_told, reached, ring_item_told};
-ghost use Rattle.lives.specs.Apart.{cpu_among, is_thread};
+ghost use Rattle.lives.specs.Apart.{cpu_among};
+ghost use Rattle.model.specs.Claims.{is_thread};
 
 use crate::perform::{behind, read};
 use calls::RawOperation;

@@ -3,11 +3,10 @@ ghost use Rattle.std.specs.Prelude.{◌≡◌, ℕ, ◌<◌, ◌≤◌, IfOk, Ok
 ghost use Rattle.calls.specs.declared.Call.TheVariants.{Advance, Enlist, Idle, Run, Signal, Switch};
 ghost use Rattle.machine.specs.Promises.{BeginsFaithful, CanBegin, CanChange, Changes, CounterOfTheLedger, HandOfTheLedger, Interrupts, ListItemOfTheLedger, RingItemOfTheLedger, StaysFaithful, Working, accept_answer, advance_answer, enlist_checks, idle_checks, run_answer, signal_checks, switch_checks};
 ghost use Rattle.machine.specs.Sound.{Sound};
-ghost use Rattle.model.specs.Calls.{Boots, Performs, Runs, Step, ToldIf};
+ghost use Rattle.model.specs.Calls.{Stopped, Boots, Performs, Runs, Step, ToldIf};
 ghost use Rattle.model.specs.Questions.{counter_told, hand_told, list_item_told, ring_item_told};
 ghost use Rattle.model.specs.State.{thread_at};
 ghost use Rattle.std.specs.Option.{unwrap_or};
-ghost use Rattle.lives.specs.Apart.{Stopped};
 
 use crate::asking;
 use crate::asking::{cpu_of, operation_of};
@@ -223,7 +222,7 @@ impl<E: Exclusion> Machine<E> {
     /// Instructions of a thread on a CPU, until so many are done or one has settled.
     fn perform_many(&mut self, cpu: usize, t: usize, instructions: u64) -> (u64, Option<Settling>)
         requires { (cpu < 8) × (t < 16) }
-        ensures stopped { Stopped instructions result.0 result.1 }
+        ensures stopped { Stopped E.Exclusion.told E.Exclusion.answers instructions result.0 result.1 }
         ensures runs { Runs E.Exclusion.told E.Exclusion.answers cpu t result.0 result.1 (self.old.core, self.old.exclusion) (self.new.core, self.new.exclusion) }
     {
         let mut count = 0;

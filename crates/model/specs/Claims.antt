@@ -133,7 +133,7 @@ pub data Mark : Type 0 where
   held : Call → Mark
 
 -- Whether a call is about a CPU; a signal is about the CPU on which its thread is current, as the ledger knows.
-abbrev is_thread : ℕ → Option ℕ → Bool
+abbrev pub is_thread : ℕ → Option ℕ → Bool
 is_thread thread None = false
 is_thread thread (Some current) = current == thread
 
