@@ -4,3 +4,4 @@
 pub mod checks;
 pub mod fields;
 pub mod layout;
+pub mod text;
