@@ -7,9 +7,9 @@ use faults::{Cause, Fault, Layer, Refusal};
 use image::checks::{TABLE_LENGTH, accept_text_length};
 use image::fields::Field;
 use image::layout::{Descriptor, TEXT_START};
-use numbers::number_at;
+use numbers::reader::Reader;
 use schedule::body::{CallAt, read_schedule};
-use schedule::header::{SCHEDULE_LENGTH, field_at};
+use schedule::header::{SCHEDULE_LENGTH, read_field};
 use std::alloc::{AllocError, Global};
 use std::io::Read;
 use words::Kind;
@@ -134,9 +134,9 @@ fn call_text(heap: Global, call: Call) -> Result<String, AllocError> {
 
 /// Lists the numbers of the header as far as they can be read, and tells where they end if all can.
 fn list_numbers(out: &mut String, heap: Global, bytes: &[u8]) -> Result<Option<usize>, AllocError> {
-    let mut at = 1;
+    let mut reader = Reader { bytes, at: 1 };
     for field in HEADER {
-        let Ok((n, next)) = field_at(bytes, at, field) else {
+        let Ok(n) = read_field(&mut reader, field) else {
             return Ok(None);
         };
         let name = field_name(field);
@@ -146,9 +146,8 @@ fn list_numbers(out: &mut String, heap: Global, bytes: &[u8]) -> Result<Option<u
             _ => format!(in heap; "{name} {n}\n")?,
         };
         out.push_str(line.as_str())?;
-        at = next;
     }
-    Ok(Some(at))
+    Ok(Some(reader.at))
 }
 
 /// Lists the descriptors of a table.
@@ -170,17 +169,15 @@ fn list_descriptors(out: &mut String, heap: Global, table: &[u8]) -> Result<(), 
     Ok(())
 }
 
-/// Lists `count` words from an offset on, as far as they can be read.
+/// Lists `count` words, as far as they can be read.
 fn list_words(
     out: &mut String,
     heap: Global,
-    bytes: &[u8],
-    first: usize,
+    mut reader: Reader,
     count: u64,
 ) -> Result<(), AllocError> {
-    let mut at = first;
     for i in 0..count {
-        let Ok((word, next)) = field_at(bytes, at, Field::TextWord) else {
+        let Ok(word) = read_field(&mut reader, Field::TextWord) else {
             return Ok(());
         };
         let address = TEXT_START.wrapping_add(i.wrapping_mul(4));
@@ -190,7 +187,6 @@ fn list_words(
             format!(in heap; "word {address} {word:#x}\n")?
         };
         out.push_str(line.as_str())?;
-        at = next;
     }
     Ok(())
 }
@@ -210,10 +206,9 @@ fn list_job(out: &mut String, heap: Global, bytes: &[u8]) -> Result<(), AllocErr
         return Ok(());
     };
     list_descriptors(out, heap, table)?;
-    match number_at(bytes, behind) {
-        Ok((count, at)) if accept_text_length(count).is_ok() => list_words(
-            out, heap, bytes, at, count,
-        ),
+    let mut reader = Reader { bytes, at: behind };
+    match reader.number() {
+        Ok(count) if accept_text_length(count).is_ok() => list_words(out, heap, reader, count),
         _ => Ok(()),
     }
 }

@@ -1,7 +1,8 @@
-use Rattle.std.proofs.Common.{◌≡◌, ℕ, zero, suc, ◌+◌, ◌-◌, ◌*◌, ◌%◌, ◌^◌, ◌<◌, ◌≤◌, Bool, true, false, cond, ltb, leb, List, [], ◌∷◌, length, get_or, drop, Ok, Err, sym, refl, ap, ◌∙◌, subst, ⊎_elim, mul-le-mul_right, mul_assoc, mul_comm, mul-add, mul_left_comm, arith, pow_mono, pow-add, ltb-true, le-ltb, lt-ltb}
+use Rattle.std.proofs.Common.{◌≡◌, ℕ, zero, suc, ◌+◌, ◌-◌, ◌*◌, ◌%◌, ◌^◌, ◌<◌, ◌≤◌, Bool, true, false, cond, ltb, leb, List, [], ◌∷◌, length, get_or, drop, Some, None, Ok, Err, Option, slice_get, sym, refl, ap, ◌∙◌, subst, ◌⊎◌, ⊎_elim, mul-le-mul_right, mul_assoc, mul_comm, mul-add, mul_left_comm, arith, pow_mono, pow-add, ltb-true, le-ltb, lt-ltb}
 use Rattle.std.proofs.lemmas.Nat.{shl_whole}
 use Rattle.std.proofs.lemmas.Bool.Decides.{leb_tells}
-use Rattle.std.proofs.lemmas.List.{drop_more, drop_all, get_or_read}
+use Rattle.std.proofs.lemmas.List.{drop_more, drop_all}
+use Rattle.std.proofs.lemmas.Option.{slice_get_within, get_or_from_slice_get, slice_get_cases}
 use Rattle.faults.specs.declared.Refusal.TheVariants.{EndsInside, WrongSpelling}
 use Rattle.faults.specs.Numbering.{fault_at}
 use Rattle.numbers.specs.Reading.{Heard, number, breaks, wrong, more, hear, told, number_at}
@@ -78,11 +79,14 @@ pub record Here (bytes : List ℕ) (at b : ℕ) : Type 0 where
   pub within : at < length bytes
   pub is : b ≡ get_or bytes at 0
 
--- What `get` answers.
-pub got : (bytes : List ℕ) (at b : ℕ) → true ≡ ltb at (length bytes) → b ≡ get_or bytes at b → Here bytes at b
-got bytes at b h e =
-    let l : at < length bytes = ltb-true at (length bytes) (sym h) in
-    record { within = l; is = get_or_read bytes at b l e 0 }
+-- What `byte` answers of the same bytes.
+pub got : (bytes same : List ℕ) (at b : ℕ) (r : Option ℕ) → same ≡ bytes → r ≡ slice_get same at → r ≡ Some b → Here bytes at b
+got bytes same at b r s e f =
+    let g : slice_get bytes at ≡ Some b = cc in
+    record { within = slice_get_within bytes at b g; is = sym (get_or_from_slice_get bytes at b 0 g) }
+
+pub gone : (bytes same : List ℕ) (at : ℕ) (r : Option ℕ) → same ≡ bytes → r ≡ slice_get same at → r ≡ None → length bytes ≤ at
+gone bytes same at r s e f = grind (arith, slice_get_cases bytes at)
 
 here : (bytes : List ℕ) (first at shift value b : ℕ) (s : SoFar bytes first at shift value) → Here bytes at b
     → hear 9 (drop first bytes) ≡ after s.groups value (hear s.left (b ∷ drop (at + 1) bytes))
@@ -129,6 +133,11 @@ zeroed bytes first at shift value b s h e z =
     ap (told first) (here bytes first at shift value b s h
     ∙ ap (after s.groups value) (hear_last b (drop (at + 1) bytes) s.left (omega arith) (λ _. omega arith) ∙ ap (λ x. number x 1) z)
     ∙ after_zero s.groups value (omega (arith, s.bits)))
+
+pub misspelled : (bytes : List ℕ) (first at shift value b : ℕ) → SoFar bytes first at shift value → Here bytes at b
+    → ((shift ≡ 63) × (1 < b)) ⊎ ((0 < shift) × (b ≡ 0)) → number_at bytes first ≡ Err (fault_at WrongSpelling first)
+misspelled bytes first at shift value b s h w =
+    ⊎_elim (λ p. above bytes first at shift value b s h p.0 p.1) (λ p. zeroed bytes first at shift value b s h p.0 p.1) w
 
 -- The last byte.
 pub ended : (bytes : List ℕ) (first at shift value b : ℕ) → SoFar bytes first at shift value → Here bytes at b

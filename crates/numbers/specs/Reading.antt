@@ -47,6 +47,11 @@ told first wrong = Err (fault_at WrongSpelling first)
 unfoldable pub number_at : List ℕ → ℕ → Result (ℕ × ℕ) Fault
 number_at bytes first = told first (hear 9 (drop first bytes))
 
+-- What was read, with the offset at which the reader then stands; a fault stays alone.
+abbrev pub with_end : {X : Type 0} → Result X Fault → ℕ → Result (X × ℕ) Fault
+with_end (Ok x) at = Ok (x, at)
+with_end (Err fault) at = Err fault
+
 -- What a number written alone leaves: its spelling at the front of the buffer and the rest as it was, or, where the spelling
 -- does not fit, the whole buffer as it was.
 abbrev pub Written : List ℕ → ℕ → List ℕ → Result ℕ Fault → Type 0

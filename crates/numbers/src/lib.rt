@@ -4,46 +4,12 @@
 
 ghost use Rattle.std.specs.Prelude.{◌≡◌, ℕ, ◌+◌, ◌<◌, ◌≤◌, length, IfOk};
 ghost use Rattle.numbers.specs.Laws.{OneNumber, OneSpelling, ReaderAnswersWhatIsSpelled, ReadsBack, WrittenAlone, WrittenSpells};
-ghost use Rattle.numbers.specs.Reading.{Written, number_at};
+ghost use Rattle.numbers.specs.Reading.{Written};
 ghost use Rattle.numbers.specs.Spelling.{spelling};
 
+pub mod reader;
+
 use faults::{Fault, Refusal};
-
-/// The number whose spelling begins at the offset `first`, and the offset behind it. A number that breaks off and one that
-/// is not spelled as it should be are refused at `first`.
-pub fn number_at(bytes: &[u8], first: usize) -> Result<(u64, usize), Fault>
-    ensures defined { result ≡ number_at bytes.now first }
-    ensures goes_on { IfOk result (λ p. (first < p.1) × (p.1 ≤ length bytes.now)) }
-{
-    scan(bytes, first)
-}
-
-/// Goes through the bytes of a number, one group after the other.
-fn scan(bytes: &[u8], first: usize) -> Result<(u64, usize), Fault>
-    ensures defined { result ≡ number_at bytes.now first }
-    ensures goes_on { IfOk result (λ p. (first < p.1) × (p.1 ≤ length bytes.now)) }
-{
-    let mut value = 0;
-    let mut shift: u32 = 0;
-    let mut at = first;
-    loop {
-        let Some(&byte) = bytes.get(at) else {
-            return Err(Fault::at(Refusal::EndsInside, first));
-        };
-        at += 1;
-        if shift == 63 && byte > 1 {
-            return Err(Fault::at(Refusal::WrongSpelling, first));
-        }
-        if byte < 128 {
-            if byte == 0 && shift > 0 {
-                return Err(Fault::at(Refusal::WrongSpelling, first));
-            }
-            return Ok((value + (u64::from(byte) << shift), at));
-        }
-        value += u64::from(byte - 128) << shift;
-        shift += 7;
-    }
-}
 
 /// How many bytes spell `n`.
 fn spelled_length(n: u64) -> usize

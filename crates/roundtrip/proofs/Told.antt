@@ -14,7 +14,7 @@ use Rattle.calls.specs.declared.RawOperation.{RawOperation}
 use Rattle.calls.specs.declared.Call.{Call}
 use Rattle.calls.specs.declared.Call.TheVariants.{Enlist, Run, Advance, Switch, Idle, Signal}
 use Rattle.schedule.specs.declared.job.Job.{Job}
-use Rattle.schedule.specs.declared.job.Text.{Text}
+use Rattle.image.specs.declared.text.Text.{Text}
 use Rattle.schedule.specs.Format.{written_numbers, exclusion_number, words_of, padded, written_job, written_operation, written_call, Within, TellableJob, TellableOperation, Tellable}
 use Rattle.schedule.specs.Reading.{Read, and_then, field_at, sizes_at, table_at, words_at, padded_words_at, word_count_at, text_at, exclusion_of, parts_at, operation_at, call_by, call_at}
 use Rattle.roundtrip.specs.Laws.{HeaderWasWritten, CallWasWritten}

@@ -1,4 +1,2 @@
 pub mod Texts
-pub mod Jobs
 pub mod Calling
-pub mod Refusing

@@ -1,34 +1,31 @@
 -- The words of a text, read one by one.
-use Rattle.std.proofs.Common.{◌≡◌, ℕ, zero, suc, ◌+◌, ◌-◌, ◌<◌, ◌≤◌, List, [], ◌∷◌, ◌++◌, length, set, replicate, Ok, Err, sym, refl, ap, ◌∙◌, append_assoc, append-nil, arith, length-append}
+use Rattle.std.proofs.Common.{◌≡◌, ℕ, zero, suc, ◌+◌, ◌-◌, ◌<◌, ◌≤◌, List, [], ◌∷◌, ◌++◌, length, take, drop, set, replicate, Ok, Err, sym, refl, ap, ◌∙◌, append_assoc, append-nil, arith, length-append}
+use Rattle.std.proofs.Math.ListN.{length-replicate}
+use Rattle.std.proofs.lemmas.List.{take-replicate, drop-replicate}
 use Rattle.faults.specs.declared.Fault.{Fault}
 use Rattle.image.specs.declared.fields.Field.TheVariants.{TextWord}
 use Rattle.schedule.specs.Format.{padded}
 use Rattle.schedule.specs.Reading.{Read, and_then, field_at, words_at, padded_words_at}
 
--- How far the reader has come: `taken` are the words read, and `left` are to come.
+-- How far the reader has come: `taken` are the words read, and `left` are to come, for which there is a 0 each.
 pub record SoFar (bytes : List ℕ) (first count i at : ℕ) (words : List ℕ) : Type 0 where
   pub taken : List ℕ
   pub left : ℕ
   pub long : length taken ≡ i
   pub rest : i + left ≡ count
-  pub few : count ≤ 256
-  pub array : words ≡ padded taken
+  pub front : words ≡ taken ++ replicate left 0
   pub says : padded_words_at count bytes first ≡ and_then (words_at left bytes at) (λ ws end. Ok (padded (taken ++ ws), end))
 
-pub none_yet : (bytes : List ℕ) (first count : ℕ) → count ≤ 256 → SoFar bytes first count 0 first (replicate 256 0)
+pub front_long : (count : ℕ) → count ≤ 256 → length (take {A = ℕ} count (replicate 256 0)) ≡ count
+front_long count few = ap length (take-replicate count 256 0 few) ∙ length-replicate count 0
+
+pub none_yet : (bytes : List ℕ) (first count : ℕ) → count ≤ 256 → SoFar bytes first count 0 first (take count (replicate 256 0))
 unfolding padded_words_at
-none_yet bytes first count few = record { taken = []; left = count; long = refl; rest = omega arith; few = few; array = refl; says = refl }
+none_yet bytes first count few = record { taken = []; left = count; long = refl; rest = omega arith; front = take-replicate count 256 0 few; says = refl }
 
 set_at_seam : (xs : List ℕ) (m w : ℕ) → set (xs ++ replicate (suc m) 0) (length xs) w ≡ (xs ++ (w ∷ [])) ++ replicate m 0
 set_at_seam [] m w = refl
 set_at_seam (x ∷ xs) m w = ap (λ ys. x ∷ ys) (set_at_seam xs m w)
-
-padded_more : (taken : List ℕ) (w i : ℕ) → length taken ≡ i → i < 256 → set (padded taken) i w ≡ padded (taken ++ (w ∷ []))
-padded_more taken w i e h =
-    let longer : length (taken ++ (w ∷ [])) ≡ suc i = length-append taken (w ∷ []) ∙ omega arith in
-    let room : 256 - length taken ≡ suc (256 - length (taken ++ (w ∷ []))) = omega arith in
-    ap (λ k. set (taken ++ replicate k 0) i w) room ∙ ap (λ k. set (taken ++ replicate (suc (256 - length (taken ++ (w ∷ [])))) 0) k w) (sym e)
-    ∙ set_at_seam taken (256 - length (taken ++ (w ∷ []))) w
 
 regroup : (taken : List ℕ) (w : ℕ) (r : Read (List ℕ))
     → and_then (and_then r (λ ws end. Ok (w ∷ ws, end))) (λ ws end. Ok (padded (taken ++ ws), end)) ≡ and_then r (λ ws end. Ok (padded ((taken ++ (w ∷ [])) ++ ws), end))
@@ -59,8 +56,7 @@ module _ (bytes : List ℕ) (first count i at : ℕ) (words : List ℕ) (s : SoF
         left = k;
         long = length-append s.taken (w ∷ []) ∙ ap (λ n. n + 1) s.long;
         rest = omega (arith, s.rest);
-        few = s.few;
-        array = ap (λ ws. set ws i w) s.array ∙ padded_more s.taken w i s.long (omega (arith, s.few));
+        front = ap (λ ws. set ws i w) (s.front ∙ ap (λ n. s.taken ++ replicate n 0) z) ∙ ap (λ n. set (s.taken ++ replicate (suc k) 0) n w) (sym s.long) ∙ set_at_seam s.taken k w;
         says = s.says ∙ ap (λ n. and_then (words_at n bytes at) (λ ws end. Ok (padded (s.taken ++ ws), end))) z
             ∙ ap (λ r. and_then r (λ ws end. Ok (padded (s.taken ++ ws), end))) (words_more k bytes at w next e) ∙ regroup s.taken w (words_at k bytes next);
       }
@@ -74,9 +70,12 @@ module _ (bytes : List ℕ) (first count i at : ℕ) (words : List ℕ) (s : SoF
           sym (s.says ∙ ap (λ n. and_then (words_at n bytes at) (λ ws end. Ok (padded (s.taken ++ ws), end))) z
           ∙ ap (λ r. and_then r (λ ws end. Ok (padded (s.taken ++ ws), end))) (words_stop k bytes at f e))
 
-  pub all_read : count ≤ i → Ok (words, at) ≡ padded_words_at count bytes first
+  pub all_read : count ≤ i → Ok (words ++ drop count (replicate 256 0), at) ≡ padded_words_at count bytes first
   all_read h =
       let none : s.left ≡ 0 = omega (arith, s.rest) in
-      ap (λ ws. Ok (ws, at)) (s.array ∙ ap padded (sym (append-nil s.taken)))
+      let all : words ≡ s.taken = s.front ∙ ap (λ n. s.taken ++ replicate n 0) none ∙ append-nil s.taken in
+      let long : count ≡ length s.taken = omega (arith, s.rest, s.long) in
+      ap (λ n. Ok (words ++ n, at)) (drop-replicate count 256 0 ∙ ap (λ n. replicate (256 - n) 0) long) ∙ ap (λ ws. Ok (ws ++ replicate (256 - length s.taken) 0, at)) all
+      ∙ ap (λ ws. Ok (padded ws, at)) (sym (append-nil s.taken))
       ∙ sym (s.says ∙ ap (λ n. and_then (words_at n bytes at) (λ ws end. Ok (padded (s.taken ++ ws), end))) none
       ∙ ap (λ r. and_then r (λ ws end. Ok (padded (s.taken ++ ws), end))) (words_none bytes at))

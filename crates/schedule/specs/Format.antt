@@ -11,7 +11,7 @@ use Rattle.calls.specs.declared.Call.TheVariants.{Enlist, Run, Advance, Switch, 
 use Rattle.schedule.specs.declared.job.ExclusionName.{ExclusionName}
 use Rattle.schedule.specs.declared.job.ExclusionName.TheVariants.{Abort, Rollback, Masking}
 use Rattle.schedule.specs.declared.job.Job.{Job}
-use Rattle.schedule.specs.declared.job.Text.{Text}
+use Rattle.image.specs.declared.text.Text.{Text}
 
 -- Numbers one after the other, each in its spelling.
 abbrev pub written_numbers : List ℕ → List ℕ

@@ -15,7 +15,7 @@ use Rattle.schedule.specs.declared.body.CallAt.{CallAt}
 use Rattle.schedule.specs.declared.job.ExclusionName.{ExclusionName}
 use Rattle.schedule.specs.declared.job.ExclusionName.TheVariants.{Abort, Rollback, Masking}
 use Rattle.schedule.specs.declared.job.Job.{Job}
-use Rattle.schedule.specs.declared.job.Text.{Text}
+use Rattle.image.specs.declared.text.Text.{Text}
 use Rattle.schedule.specs.Format.{padded, words_of}
 
 -- What was read, with the offset behind it, or the fault that ends the reading.

@@ -1,12 +1,13 @@
 //! The calls of a schedule, read one by one.
-ghost use Rattle.std.specs.Prelude.{◌≡◌, ℕ, ◌+◌, ◌<◌, ◌≤◌, [], length, IfOk};
+ghost use Rattle.std.specs.Prelude.{◌≡◌, ℕ, ◌+◌, ◌<◌, ◌≤◌, [], length, IfOk, IfErr};
+ghost use Rattle.numbers.specs.Reading.{with_end};
 ghost use Rattle.schedule.specs.Reading.{CallsAsRead, call_at, call_by, calls_from, operation_at, schedule_read};
 
-use super::header::job_at;
+use super::header::read_job;
 use super::job::Job;
 use calls::{Call, RawOperation};
 use faults::{Fault, Refusal};
-use numbers::number_at;
+use numbers::reader::Reader;
 use std::alloc::{AllocError, Global};
 
 /// A call of a schedule with the offset of its letter.
@@ -16,62 +17,58 @@ pub struct CallAt {
     pub call: Call,
 }
 
-/// The operation at an offset: kind, counter and amount, each any number.
-fn operation_at(bytes: &[u8], at: usize) -> Result<(RawOperation, usize), Fault>
-    ensures defined { result ≡ operation_at bytes.now at }
-    ensures goes_on { IfOk result (λ p. (at < p.1) × (p.1 ≤ length bytes.now)) }
+/// Reads an operation: kind, counter and amount, each any number.
+fn read_operation(reader: &mut Reader) -> Result<RawOperation, Fault>
+    ensures defined { with_end result reader.new.at ≡ operation_at reader.old.bytes.now reader.old.at }
+    ensures goes_on { IfOk result (λ _. (reader.old.at < reader.new.at) × (reader.new.at ≤ length reader.old.bytes.now)) }
+    ensures same_bytes { reader.new.bytes.now ≡ reader.old.bytes.now }
 {
-    let (kind, at) = number_at(bytes, at)?;
-    let (counter, at) = number_at(bytes, at)?;
-    let (amount, at) = number_at(bytes, at)?;
-    let operation = RawOperation {
-        kind,
-        counter,
-        amount,
-    };
-    Ok((operation, at))
+    Ok(RawOperation {
+        kind: reader.number()?,
+        counter: reader.number()?,
+        amount: reader.number()?,
+    })
 }
 
-/// The call whose letter stands at an offset, and the offset behind it. Its first letter says which call it is.
-pub fn call_at(bytes: &[u8], first: usize) -> Result<(Call, usize), Fault>
-    ensures defined { result ≡ call_at bytes.now first }
-    ensures goes_on { IfOk result (λ p. (first < p.1) × (p.1 ≤ length bytes.now)) }
+/// Reads a call. Its first letter says which call it is. On a fault the reader stays at that letter.
+pub fn read_call(reader: &mut Reader) -> Result<Call, Fault>
+    ensures defined { with_end result reader.new.at ≡ call_at reader.old.bytes.now reader.old.at }
+    ensures goes_on { IfOk result (λ _. (reader.old.at < reader.new.at) × (reader.new.at ≤ length reader.old.bytes.now)) }
+    ensures stays_on_a_fault { IfErr result (λ _. reader.new.at ≡ reader.old.at) }
+    ensures same_bytes { reader.new.bytes.now ≡ reader.old.bytes.now }
 {
-    let Some(&letter) = bytes.get(first) else {
+    let first = reader.at;
+    let mut ahead = *reader;
+    let Some(letter) = ahead.byte() else {
         return Err(Fault::at(Refusal::EndsInside, first));
     };
-    let at = first + 1;
-    match char::from(letter) {
-        'e' => {
-            let (thread, at) = number_at(bytes, at)?;
-            let (operation, at) = operation_at(bytes, at)?;
-            Ok((Call::Enlist { thread, operation }, at))
-        }
-        'r' => {
-            let (cpu, at) = number_at(bytes, at)?;
-            Ok((Call::Run { cpu }, at))
-        }
-        'a' => {
-            let (cpu, at) = number_at(bytes, at)?;
-            let (instructions, at) = number_at(bytes, at)?;
-            Ok((Call::Advance { cpu, instructions }, at))
-        }
-        's' => {
-            let (cpu, at) = number_at(bytes, at)?;
-            let (thread, at) = number_at(bytes, at)?;
-            Ok((Call::Switch { cpu, thread }, at))
-        }
-        'i' => {
-            let (cpu, at) = number_at(bytes, at)?;
-            Ok((Call::Idle { cpu }, at))
-        }
-        'g' => {
-            let (thread, at) = number_at(bytes, at)?;
-            let (operation, at) = operation_at(bytes, at)?;
-            Ok((Call::Signal { thread, operation }, at))
-        }
-        _ => Err(Fault::at(Refusal::UnknownLetter, first)),
-    }
+    let call = match char::from(letter) {
+        'e' => Call::Enlist {
+            thread: ahead.number()?,
+            operation: read_operation(&mut ahead)?,
+        },
+        'r' => Call::Run {
+            cpu: ahead.number()?,
+        },
+        'a' => Call::Advance {
+            cpu: ahead.number()?,
+            instructions: ahead.number()?,
+        },
+        's' => Call::Switch {
+            cpu: ahead.number()?,
+            thread: ahead.number()?,
+        },
+        'i' => Call::Idle {
+            cpu: ahead.number()?,
+        },
+        'g' => Call::Signal {
+            thread: ahead.number()?,
+            operation: read_operation(&mut ahead)?,
+        },
+        _ => return Err(Fault::at(Refusal::UnknownLetter, first)),
+    };
+    *reader = ahead;
+    Ok(call)
 }
 
 /// The calls of a schedule, each with its offset, as far as they can be read, and the fault that ended the reading, if one did.
@@ -81,26 +78,15 @@ pub struct CallsRead {
     pub fault: Option<Fault>,
 }
 
-/// Reads calls from an offset to the end.
-pub fn read_calls(heap: Global, bytes: &[u8], first: usize) -> Result<CallsRead, AllocError>
-    ensures defined { IfOk result (λ read. record { calls = read.calls.items; fault = read.fault } ≡ calls_from (length bytes.now) bytes.now first) }
+/// Reads calls to the end.
+pub fn read_calls(heap: Global, mut reader: Reader) -> Result<CallsRead, AllocError>
+    ensures defined { IfOk result (λ read. record { calls = read.calls.items; fault = read.fault } ≡ calls_from (length reader.entry.bytes.now) reader.entry.bytes.now reader.entry.at) }
 {
-    collect_calls(Vec::new(heap), bytes, first)
-}
-
-/// Adds calls from an offset to the end to an empty vector.
-fn collect_calls(empty: Vec<CallAt>, bytes: &[u8], first: usize) -> Result<CallsRead, AllocError>
-    requires { empty.items ≡ [] }
-    ensures defined { IfOk result (λ read. record { calls = read.calls.items; fault = read.fault } ≡ calls_from (length bytes.now) bytes.now first) }
-{
-    let mut calls = empty;
-    let mut at = first;
-    while at < bytes.len() {
-        match call_at(bytes, at) {
-            Ok((call, next)) => {
-                calls.push(CallAt { at, call })?;
-                at = next;
-            }
+    let mut calls = Vec::new(heap);
+    while reader.at < reader.bytes.len() {
+        let at = reader.at;
+        match read_call(&mut reader) {
+            Ok(call) => calls.push(CallAt { at, call })?,
             Err(fault) => {
                 let fault = Some(fault);
                 return Ok(CallsRead { calls, fault });
@@ -123,9 +109,9 @@ pub struct ScheduleRead {
 pub fn read_schedule(heap: Global, bytes: &[u8]) -> Result<ScheduleRead, AllocError>
     ensures defined { IfOk result (λ read. record { job = read.job; calls = read.calls.items; fault = read.fault } ≡ schedule_read bytes.now) }
 {
-    match job_at(bytes) {
+    match read_job(bytes) {
         Ok((job, at)) => {
-            let CallsRead { calls, fault } = read_calls(heap, bytes, at)?;
+            let CallsRead { calls, fault } = read_calls(heap, Reader { bytes, at })?;
             let job = Some(job);
             Ok(ScheduleRead { job, calls, fault })
         }

@@ -1,160 +1,146 @@
 //! The header of a schedule, read part by part.
-ghost use Rattle.std.specs.Prelude.{◌≡◌, ℕ, ◌+◌, ◌<◌, ◌≤◌, length, IfOk};
+ghost use Rattle.std.specs.Prelude.{◌≡◌, ℕ, ◌+◌, ◌<◌, ◌≤◌, length, IfOk, IfErr};
 ghost use Rattle.image.specs.Checks.{largest, least};
-ghost use Rattle.schedule.specs.Reading.{exclusion_of, field_at, header_at, job_at, padded_words_at, parts_at, sizes_at, table_at, text_at, word_count_at};
+ghost use Rattle.numbers.specs.Reading.{with_end};
+ghost use Rattle.schedule.specs.Reading.{field_at, header_at, job_at, padded_words_at, parts_at, sizes_at, table_at, text_at, word_count_at};
 
-use super::job::{ExclusionName, Job, Text};
+use super::job::{ExclusionName, Job};
 use faults::{Fault, Refusal};
-use image::checks::{accept_text_length, check_image};
+use image::checks::{TABLE_LENGTH, TEXT_LENGTH, accept_text_length, check_image};
 use image::fields::{Field, Sizes};
-use numbers::number_at;
+use image::text::Text;
+use numbers::reader::Reader;
 
 /// The most bytes of a schedule.
 pub const SCHEDULE_LENGTH: usize = 32768;
 
-/// A number of the job and the offset behind it: it is read whole and then held against its limits, beyond which boot
-/// refuses the job.
-pub fn field_at(bytes: &[u8], at: usize, field: Field) -> Result<(u64, usize), Fault>
-    ensures defined { result ≡ field_at bytes.now at field }
-    ensures within_limits { IfOk result (λ p. (least field ≤ p.0) × (p.0 ≤ largest field)) }
-    ensures goes_on { IfOk result (λ p. (at < p.1) × (p.1 ≤ length bytes.now)) }
+/// Reads a number of the job: it is read whole and then held against its limits, beyond which boot refuses the job. On a
+/// fault the reader stays at the number.
+pub fn read_field(reader: &mut Reader, field: Field) -> Result<u64, Fault>
+    ensures defined { with_end result reader.new.at ≡ field_at reader.old.bytes.now reader.old.at field }
+    ensures within_limits { IfOk result (λ n. (least field ≤ n) × (n ≤ largest field)) }
+    ensures goes_on { IfOk result (λ _. (reader.old.at < reader.new.at) × (reader.new.at ≤ length reader.old.bytes.now)) }
+    ensures stays_on_a_fault { IfErr result (λ _. reader.new.at ≡ reader.old.at) }
+    ensures same_bytes { reader.new.bytes.now ≡ reader.old.bytes.now }
 {
-    let (n, next) = number_at(bytes, at)?;
-    match field.accept(n) {
-        Ok(accepted) => Ok((accepted, next)),
-        Err(fault) => Err(Fault::by_boot(at, fault)),
+    let mut ahead = *reader;
+    let number = ahead.number()?;
+    let number = field
+        .accept(number)
+        .map_err(|fault| Fault::by_boot(reader.at, fault))?;
+    *reader = ahead;
+    Ok(number)
+}
+
+/// Reads the five sizes of the job.
+fn read_sizes(reader: &mut Reader) -> Result<Sizes, Fault>
+    ensures defined { with_end result reader.new.at ≡ sizes_at reader.old.bytes.now reader.old.at }
+    ensures same_bytes { reader.new.bytes.now ≡ reader.old.bytes.now }
+{
+    Ok(Sizes {
+        cpus: read_field(reader, Field::Cpus)?,
+        threads: read_field(reader, Field::Threads)?,
+        nodes: read_field(reader, Field::Nodes)?,
+        packets: read_field(reader, Field::Packets)?,
+        counters: read_field(reader, Field::Counters)?,
+    })
+}
+
+/// Reads the bytes of the descriptor table.
+fn read_table(reader: &mut Reader) -> Result<[u8; TABLE_LENGTH], Fault>
+    ensures defined { with_end result reader.new.at ≡ table_at reader.old.bytes.now reader.old.at }
+    ensures same_bytes { reader.new.bytes.now ≡ reader.old.bytes.now }
+{
+    if let Some(rest) = reader.bytes.get(reader.at..)
+        && let Some(table) = rest.first_chunk()
+    {
+        reader.at += TABLE_LENGTH;
+        return Ok(*table);
     }
+    Err(Fault::at(Refusal::EndsInside, reader.bytes.len()))
 }
 
-/// The five sizes of the job.
-fn sizes_at(bytes: &[u8], at: usize) -> Result<(Sizes, usize), Fault>
-    ensures defined { result ≡ sizes_at bytes.now at }
-    ensures goes_on { IfOk result (λ p. p.1 ≤ length bytes.now) }
+/// Reads the number of words.
+fn read_word_count(reader: &mut Reader) -> Result<usize, Fault>
+    ensures defined { with_end result reader.new.at ≡ word_count_at reader.old.bytes.now reader.old.at }
+    ensures within_limits { IfOk result (λ n. (1 ≤ n) × (n ≤ 256)) }
+    ensures same_bytes { reader.new.bytes.now ≡ reader.old.bytes.now }
 {
-    let (cpus, at) = field_at(bytes, at, Field::Cpus)?;
-    let (threads, at) = field_at(bytes, at, Field::Threads)?;
-    let (nodes, at) = field_at(bytes, at, Field::Nodes)?;
-    let (packets, at) = field_at(bytes, at, Field::Packets)?;
-    let (counters, at) = field_at(bytes, at, Field::Counters)?;
-    let sizes = Sizes {
-        cpus,
-        threads,
-        nodes,
-        packets,
-        counters,
-    };
-    Ok((sizes, at))
+    let first = reader.at;
+    let count = reader.number()?;
+    let count = accept_text_length(count).map_err(|fault| Fault::by_boot(first, fault))?;
+    Ok(count as usize)
 }
 
-/// The bytes of the descriptor table.
-fn table_at(bytes: &[u8], at: usize) -> Result<([u8; 160], usize), Fault>
-    requires { at ≤ length bytes.now }
-    ensures defined { result ≡ table_at bytes.now at }
-{
-    if bytes.len() - at < 160 {
-        return Err(Fault::at(Refusal::EndsInside, bytes.len()));
-    }
-    let mut table = [0; 160];
-    table.copy_from_slice(&bytes[at..at + 160]);
-    Ok((table, at + 160))
-}
-
-/// The number of words.
-fn word_count_at(bytes: &[u8], at: usize) -> Result<(u64, usize), Fault>
-    ensures defined { result ≡ word_count_at bytes.now at }
-    ensures within_limits { IfOk result (λ p. (1 ≤ p.0) × (p.0 ≤ 256)) }
-{
-    let (n, next) = number_at(bytes, at)?;
-    match accept_text_length(n) {
-        Ok(_) => Ok((n, next)),
-        Err(fault) => Err(Fault::by_boot(at, fault)),
-    }
-}
-
-/// Reads so many words.
-fn words_at(bytes: &[u8], first: usize, count: usize) -> Result<([u32; 256], usize), Fault>
+/// Reads so many words into the front of an array.
+fn read_words(reader: &mut Reader, count: usize) -> Result<[u32; TEXT_LENGTH], Fault>
     requires { count ≤ 256 }
-    ensures defined { result ≡ padded_words_at count bytes.now first }
+    ensures defined { with_end result reader.new.at ≡ padded_words_at count reader.old.bytes.now reader.old.at }
+    ensures same_bytes { reader.new.bytes.now ≡ reader.old.bytes.now }
 {
-    let mut words = [0; 256];
-    let mut at = first;
-    for i in 0..count {
-        let (word, next) = field_at(bytes, at, Field::TextWord)?;
-        words[i] = word as u32;
-        at = next;
+    let mut words = [0; TEXT_LENGTH];
+    for word in &mut words[..count] {
+        *word = read_field(reader, Field::TextWord)? as u32;
     }
-    Ok((words, at))
+    Ok(words)
 }
 
-/// The text: the number of its words, then the words.
-fn text_at(bytes: &[u8], at: usize) -> Result<(Text, usize), Fault>
-    ensures defined { result ≡ text_at bytes.now at }
-    ensures text_fits { IfOk result (λ p. p.0.count ≤ 256) }
+/// Reads the text: the number of its words, then the words.
+fn read_text(reader: &mut Reader) -> Result<Text, Fault>
+    ensures defined { with_end result reader.new.at ≡ text_at reader.old.bytes.now reader.old.at }
+    ensures text_fits { IfOk result (λ text. text.count ≤ 256) }
+    ensures same_bytes { reader.new.bytes.now ≡ reader.old.bytes.now }
 {
-    let (count, at) = word_count_at(bytes, at)?;
-    let count = count as usize;
-    let (words, at) = words_at(bytes, at, count)?;
-    Ok((Text { words, count }, at))
+    let count = read_word_count(reader)?;
+    let words = read_words(reader, count)?;
+    Ok(Text { words, count })
 }
 
-/// The exclusion with a number.
-fn exclusion_named(number: u64) -> ExclusionName
-    ensures defined { result ≡ exclusion_of number }
+/// Reads the parts of a job behind its letter.
+fn read_parts(reader: &mut Reader) -> Result<Job, Fault>
+    ensures defined { with_end result reader.new.at ≡ parts_at reader.old.bytes.now reader.old.at }
+    ensures text_fits { IfOk result (λ job. job.text.count ≤ 256) }
+    ensures same_bytes { reader.new.bytes.now ≡ reader.old.bytes.now }
 {
-    match number {
-        0 => ExclusionName::Abort,
-        1 => ExclusionName::Rollback,
-        _ => ExclusionName::Masking,
-    }
+    let exclusion = read_field(reader, Field::Exclusion)?;
+    Ok(Job {
+        exclusion: ExclusionName::try_from(exclusion).unwrap(),
+        grace: read_field(reader, Field::Grace)? as u8,
+        sizes: read_sizes(reader)?,
+        signature: read_field(reader, Field::Signature)? as u32,
+        table: read_table(reader)?,
+        text: read_text(reader)?,
+    })
 }
 
-/// The parts of a job behind its letter.
-fn parts_at(bytes: &[u8], at: usize) -> Result<(Job, usize), Fault>
-    ensures defined { result ≡ parts_at bytes.now at }
-    ensures text_fits { IfOk result (λ p. p.0.text.count ≤ 256) }
-{
-    let (exclusion, at) = field_at(bytes, at, Field::Exclusion)?;
-    let (grace, at) = field_at(bytes, at, Field::Grace)?;
-    let (sizes, at) = sizes_at(bytes, at)?;
-    let (signature, at) = field_at(bytes, at, Field::Signature)?;
-    let (table, at) = table_at(bytes, at)?;
-    let (text, at) = text_at(bytes, at)?;
-    let job = Job {
-        exclusion: exclusion_named(exclusion),
-        grace: grace as u8,
-        sizes,
-        signature: signature as u32,
-        table,
-        text,
-    };
-    Ok((job, at))
-}
-
-/// The header of a schedule: its job, whatever its image, and the offset behind it.
-pub fn header_at(bytes: &[u8]) -> Result<(Job, usize), Fault>
+/// Reads the header of a schedule: its job, whatever its image, and the offset behind it.
+pub fn read_header(bytes: &[u8]) -> Result<(Job, usize), Fault>
     ensures defined { result ≡ header_at bytes.now }
     ensures text_fits { IfOk result (λ p. p.0.text.count ≤ 256) }
 {
     if bytes.len() > SCHEDULE_LENGTH {
         return Err(Fault::at(Refusal::EndsInside, SCHEDULE_LENGTH));
     }
-    let Some(&letter) = bytes.get(0) else {
+    let mut reader = Reader { bytes, at: 0 };
+    let Some(letter) = reader.byte() else {
         return Err(Fault::at(Refusal::EndsInside, 0));
     };
     match char::from(letter) {
-        'J' => parts_at(bytes, 1),
+        'J' => {
+            let job = read_parts(&mut reader)?;
+            Ok((job, reader.at))
+        }
         _ => Err(Fault::at(Refusal::UnknownLetter, 0)),
     }
 }
 
-/// The job of a schedule whose image is accepted, and the offset behind it.
-pub fn job_at(bytes: &[u8]) -> Result<(Job, usize), Fault>
+/// Reads the job of a schedule whose image is accepted, and the offset behind it.
+pub fn read_job(bytes: &[u8]) -> Result<(Job, usize), Fault>
     ensures defined { result ≡ job_at bytes.now }
 {
-    let (job, at) = header_at(bytes)?;
-    let words = &job.text.words[0..job.text.count];
-    match check_image(&job.sizes, &job.table, words, job.signature) {
-        Ok(_) => Ok((job, at)),
-        Err(fault) => Err(Fault::by_boot(at, fault)),
-    }
+    let (job, at) = read_header(bytes)?;
+    check_image(&job.sizes, &job.table, job.text.words(), job.signature).map_err(
+        |fault| Fault::by_boot(at, fault),
+    )?;
+    Ok((job, at))
 }

@@ -1,5 +1,11 @@
 //! What a schedule's header tells.
+ghost use Rattle.std.specs.Prelude.{◌≡◌, Some};
+ghost use Rattle.schedule.specs.Names.{exclusion_name, exclusion_numbered};
+
+use image::checks::TABLE_LENGTH;
 use image::fields::Sizes;
+use image::text::Text;
+use std::fmt;
 
 /// The exclusion that a job asks for by its number: what keeps a restartable section from being disturbed halfway.
 #[derive(Clone, Copy, PartialEq, Eq, Debug)]
@@ -12,11 +18,37 @@ pub enum ExclusionName {
     Masking = 2,
 }
 
-/// A text: its first `count` words; the places behind them are 0.
-#[derive(Clone, Copy)]
-pub struct Text {
-    pub words: [u32; 256],
-    pub count: usize,
+/// A number that is no exclusion's.
+#[derive(Clone, Copy, PartialEq, Eq, Debug)]
+pub struct UnknownExclusion(pub u64);
+
+impl TryFrom<u64> for ExclusionName {
+    type Error = UnknownExclusion;
+
+    ghost try_from_gives = { λ number result. result ≡ exclusion_numbered number };
+
+    /// The exclusion with a number, if there is one.
+    fn try_from(number: u64) -> Result<ExclusionName, UnknownExclusion> {
+        match number {
+            0 => Ok(ExclusionName::Abort),
+            1 => Ok(ExclusionName::Rollback),
+            2 => Ok(ExclusionName::Masking),
+            _ => Err(UnknownExclusion(number)),
+        }
+    }
+}
+
+/// Writes the exclusion's name.
+impl fmt::Display for ExclusionName {
+    ghost output = { λ exclusion. Some (exclusion_name exclusion) };
+
+    fn fmt<W: fmt::Write>(&self, f: &mut fmt::Formatter<W>) -> fmt::Result {
+        f.write_str(match self {
+            ExclusionName::Abort => "abort",
+            ExclusionName::Rollback => "rollback",
+            ExclusionName::Masking => "masking",
+        })
+    }
 }
 
 /// A job: what a machine is booted from.
@@ -27,6 +59,6 @@ pub struct Job {
     pub grace: u8,
     pub sizes: Sizes,
     pub signature: u32,
-    pub table: [u8; 160],
+    pub table: [u8; TABLE_LENGTH],
     pub text: Text,
 }

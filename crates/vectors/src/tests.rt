@@ -10,10 +10,11 @@ use faults::{Fault, Refusal};
 use image::checks::check_image;
 use image::fields::Sizes;
 use image::layout::Section;
-use numbers::{number_at, write_number};
+use numbers::reader::Reader;
+use numbers::write_number;
 use sample::{POP, POP_BREAKS, POP_HEADER, SIGNATURE, TABLE, TEXT};
-use schedule::body::{CallAt, call_at, read_calls, read_schedule};
-use schedule::header::{header_at, job_at};
+use schedule::body::{CallAt, read_call, read_calls, read_schedule};
+use schedule::header::{read_header, read_job};
 use std::alloc::Global;
 use std::process::Abort;
 use std::test::Fail;
@@ -25,6 +26,20 @@ const SIZES: Sizes = Sizes {
     packets: 1,
     counters: 1,
 };
+
+/// The number at an offset, and the offset behind it.
+fn number_at(bytes: &[u8], at: usize) -> Result<(u64, usize), Fault> {
+    let mut reader = Reader { bytes, at };
+    let number = reader.number()?;
+    Ok((number, reader.at))
+}
+
+/// The call at an offset, and the offset behind it.
+fn call_at(bytes: &[u8], at: usize) -> Result<(Call, usize), Fault> {
+    let mut reader = Reader { bytes, at };
+    let call = read_call(&mut reader)?;
+    Ok((call, reader.at))
+}
 
 fn spelled(rt: &impl Abort, n: u64, bytes: &[u8]) -> Result<(), Fail> {
     let mut out = [0xEE; 12];
@@ -274,10 +289,10 @@ fn every_front_of_the_example_ends_where_it_should(rt: HostRuntime) -> Result<()
 
 #[test]
 fn the_example_has_its_calls(rt: HostRuntime) -> Result<(), Fail> {
-    let (job, at) = job_at(&POP)?;
+    let (job, at) = read_job(&POP)?;
     assert_eq!(rt; at, POP_HEADER);
     assert_eq!(rt; job.text.count, 42);
-    let read = read_calls(rt.alloc(), &POP, at)?;
+    let read = read_calls(rt.alloc(), Reader { bytes: &POP, at })?;
     assert_eq!(rt; read.fault, None);
     let pop = RawOperation {
         kind: 3,
@@ -304,7 +319,7 @@ fn header_refused(rt: &impl Abort, at: usize, byte: u8, fault: Fault) -> Result<
     let mut bytes = POP;
     assert!(rt; at < POP.len());
     bytes[at] = byte;
-    match job_at(&bytes) {
+    match read_job(&bytes) {
         Ok(_) => Err(Fail::new("accepted")),
         Err(found) => {
             assert_eq!(rt; found, fault);
@@ -365,7 +380,7 @@ fn a_refused_job_tells_boots_fault(rt: HostRuntime) -> Result<(), Fail> {
         Fault::by_boot(173, Fault::at(Refusal::ImageLength, 1)),
     )?;
     let long = [b'J'; 32769];
-    match header_at(&long) {
+    match read_header(&long) {
         Ok(_) => Err(Fail::new("accepted")),
         Err(found) => {
             assert_eq!(rt; found, Fault::at(Refusal::EndsInside, 32768));

@@ -1,0 +1,52 @@
+//! Reading numbers one after the other.
+ghost use Rattle.std.specs.Prelude.{◌≡◌, ℕ, ◌+◌, ◌<◌, ◌≤◌, length, slice_get, IfOk, IfErr, MatchOption};
+ghost use Rattle.numbers.specs.Reading.{number_at, with_end};
+
+use faults::{Fault, Refusal};
+
+/// Reads bytes from the offset `at` on.
+#[derive(Clone, Copy)]
+pub struct Reader<'a> {
+    pub bytes: &'a [u8],
+    pub at: usize,
+}
+
+impl Reader<'_> {
+    /// The next byte, if there is one.
+    pub fn byte(&mut self) -> Option<u8>
+        ensures defined { result ≡ slice_get self.old.bytes.now self.old.at }
+        ensures goes_on { MatchOption result (self.new.at ≡ self.old.at) (λ _. self.new.at ≡ self.old.at + 1) }
+        ensures same_bytes { self.new.bytes.now ≡ self.old.bytes.now }
+    {
+        let byte = *self.bytes.get(self.at)?;
+        self.at += 1;
+        Some(byte)
+    }
+
+    /// The number whose spelling begins here. A number that breaks off and one that is not spelled as it should be are
+    /// refused at their first byte, where the reader then stays.
+    pub fn number(&mut self) -> Result<u64, Fault>
+        ensures defined { with_end result self.new.at ≡ number_at self.old.bytes.now self.old.at }
+        ensures goes_on { IfOk result (λ _. (self.old.at < self.new.at) × (self.new.at ≤ length self.old.bytes.now)) }
+        ensures stays_on_a_fault { IfErr result (λ _. self.new.at ≡ self.old.at) }
+        ensures same_bytes { self.new.bytes.now ≡ self.old.bytes.now }
+    {
+        let first = self.at;
+        let mut ahead = *self;
+        let mut value = 0;
+        for shift in (0u32..64).step_by(7) {
+            let Some(byte) = ahead.byte() else {
+                return Err(Fault::at(Refusal::EndsInside, first));
+            };
+            if (shift == 63 && byte > 1) || (shift > 0 && byte == 0) {
+                break;
+            }
+            if byte < 128 {
+                *self = ahead;
+                return Ok(value + (u64::from(byte) << shift));
+            }
+            value += u64::from(byte - 128) << shift;
+        }
+        Err(Fault::at(Refusal::WrongSpelling, first))
+    }
+}
