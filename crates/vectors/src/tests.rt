@@ -7,7 +7,7 @@ use exclusion::meaning::{Exclusion, Notice, Verdict};
 use exclusion::rollback::AddressRollback;
 use exclusion_laws::{ask, ask_both_classic, ask_masking};
 use faults::{Fault, Refusal};
-use image::checks::check_image;
+use image::checks::JobImage;
 use image::fields::Sizes;
 use image::layout::Section;
 use numbers::reader::Reader;
@@ -40,6 +40,12 @@ fn call_at(bytes: &[u8], at: usize) -> Result<(Call, usize), Fault> {
     let call = read_call(&mut reader)?;
     Ok((call, reader.at))
 }
+const IMAGE: JobImage<'static> = JobImage {
+    sizes: SIZES,
+    table: &TABLE,
+    text: &TEXT,
+    signature: SIGNATURE,
+};
 
 fn spelled(rt: &impl Abort, n: u64, bytes: &[u8]) -> Result<(), Fail> {
     let mut out = [0xEE; 12];
@@ -119,7 +125,7 @@ fn a_number_that_does_not_fit_leaves_the_buffer(rt: HostRuntime) {
 
 #[test]
 fn the_sample_image_is_accepted(rt: HostRuntime) -> Result<(), Fail> {
-    let sections = check_image(&SIZES, &TABLE, &TEXT, SIGNATURE)?;
+    let sections = IMAGE.check()?;
     let add = Section {
         start: 4100,
         length: 16,
@@ -141,7 +147,11 @@ fn table_refused(rt: &impl Abort, at: usize, byte: u8, refusal: Refusal, place: 
     assert!(rt; at < 160);
     table[at] = byte;
     assert_eq!(rt;
-        check_image(&SIZES, &table, &TEXT, SIGNATURE),
+        JobImage {
+            table: &table,
+            ..IMAGE
+        }
+        .check(),
         Err(Fault::at(refusal, place))
     );
 }
@@ -172,7 +182,11 @@ fn length_refused(rt: &impl Abort, length: u64, refusal: Refusal, place: usize) 
     table[20] = bytes[4];
     table[23] = bytes[7];
     assert_eq!(rt;
-        check_image(&SIZES, &table, &TEXT, SIGNATURE),
+        JobImage {
+            table: &table,
+            ..IMAGE
+        }
+        .check(),
         Err(Fault::at(refusal, place))
     );
 }
@@ -192,7 +206,11 @@ fn text_refused(rt: &impl Abort, at: usize, word: u32, refusal: Refusal, place: 
     assert!(rt; at < 42);
     text[at] = word;
     assert_eq!(rt;
-        check_image(&SIZES, &TABLE, &text, SIGNATURE),
+        JobImage {
+            text: &text,
+            ..IMAGE
+        }
+        .check(),
         Err(Fault::at(refusal, place))
     );
 }
@@ -210,7 +228,7 @@ fn each_word_of_a_routine_counts(rt: HostRuntime) {
 
 fn sizes_refused(rt: &impl Abort, sizes: Sizes, place: usize) {
     assert_eq!(rt;
-        check_image(&sizes, &TABLE, &TEXT, SIGNATURE),
+        JobImage { sizes, ..IMAGE }.check(),
         Err(Fault::at(Refusal::OutOfRange, place))
     );
 }
@@ -259,11 +277,19 @@ fn sizes_and_lengths_are_held_to_their_limits(rt: HostRuntime) {
         },
         3,
     );
-    let short = check_image(&SIZES, &TABLE[0..159], &TEXT, SIGNATURE);
+    let short = JobImage {
+        table: &TABLE[0..159],
+        ..IMAGE
+    }
+    .check();
     assert_eq!(rt; short, Err(Fault::at(Refusal::ImageLength, 0)));
-    let empty = check_image(&SIZES, &TABLE, &[], SIGNATURE);
+    let empty = JobImage { text: &[], ..IMAGE }.check();
     assert_eq!(rt; empty, Err(Fault::at(Refusal::ImageLength, 1)));
-    let long = check_image(&SIZES, &TABLE, &[1; 257], SIGNATURE);
+    let long = JobImage {
+        text: &[1; 257],
+        ..IMAGE
+    }
+    .check();
     assert_eq!(rt; long, Err(Fault::at(Refusal::ImageLength, 1)));
 }
 
