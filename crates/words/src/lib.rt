@@ -1,16 +1,19 @@
 //! The words of a text, and the operations whose routines they make.
 #![tactic(auto)]
 
-ghost use Rattle.words.specs.Words.{code, kind_number, kind_of, kinds, section_words};
-ghost use Rattle.words.specs.declared.Kind.{Kind};
-ghost use Rattle.std.specs.Prelude.{◌≡◌, MatchOption, ◌≢◌};
+ghost use Rattle.words.specs.Words.{code, DecodesWord, FindsKind, kind_name, kind_number, kinds, section_words};
+ghost use Rattle.std.specs.Prelude.{◌≡◌, ◌++◌, Some, codes};
+ghost use Rattle.std.specs.Fmt.{decimal};
+
+use std::error::Error;
+use std::fmt;
 
 /// An instruction of a text. The number is the one that stands for it in the text.
 ///
 /// Instructions work on the registers q, a, b and w of a thread, on its hand, which holds a node or nothing, and on the
 /// structures of CPU q: counters, a list of nodes, and a ring of packets. "Ends with" says that the operation is over, with
 /// that answer.
-#[derive(Clone, Copy)]
+#[derive(Clone, Copy, PartialEq, Eq, Hash, Debug)]
 pub enum Word {
     /// The entry of a routine: its descriptor is armed, which marks the thread as being in that routine, and its section
     /// begins.
@@ -60,6 +63,7 @@ pub enum Word {
 }
 
 impl Word {
+    // stays: a method, not a `From` to each number type: `word.number()` reads plainer than `u32::from(word)`, and the cast is its whole body
     /// The number that stands for the word in a text.
     pub fn number(self) -> u32
         ensures numbered { result ≡ code self }
@@ -68,8 +72,58 @@ impl Word {
     }
 }
 
+/// A number that stands for no word.
+#[derive(Clone, Copy, PartialEq, Eq, Hash, Debug)]
+pub struct NoSuchWord(pub u32);
+
+/// The word that a number of a text stands for.
+impl TryFrom<u32> for Word {
+    type Error = NoSuchWord;
+
+    ghost try_from_gives = { DecodesWord };
+
+    fn try_from(number: u32) -> Result<Self, NoSuchWord> {
+        match number {
+            1 => Ok(Word::Enter),
+            2 => Ok(Word::ReadCpu),
+            3 => Ok(Word::LoadCounter),
+            4 => Ok(Word::AddAmount),
+            5 => Ok(Word::StoreCounter),
+            6 => Ok(Word::NeedNode),
+            7 => Ok(Word::NeedEmptyHand),
+            8 => Ok(Word::LoadListHead),
+            9 => Ok(Word::LinkNode),
+            10 => Ok(Word::PushNode),
+            11 => Ok(Word::NeedListed),
+            12 => Ok(Word::LoadNext),
+            13 => Ok(Word::PopNode),
+            14 => Ok(Word::LoadTail),
+            15 => Ok(Word::LoadRingHead),
+            16 => Ok(Word::NeedRoom),
+            17 => Ok(Word::StorePacket),
+            18 => Ok(Word::AdvanceTail),
+            19 => Ok(Word::NeedPacket),
+            20 => Ok(Word::LoadPacket),
+            21 => Ok(Word::AdvanceRingHead),
+            22 => Ok(Word::Restart),
+            _ => Err(NoSuchWord(number)),
+        }
+    }
+}
+
+/// What is wrong, with the number.
+impl fmt::Display for NoSuchWord {
+    ghost output = { λ e. Some (codes "no word has the number " ++ decimal e.0) };
+
+    fn fmt<W: fmt::Write>(&self, f: &mut fmt::Formatter<W>) -> fmt::Result {
+        write!(f, "no word has the number {}", self.0)
+    }
+}
+
+impl Error for NoSuchWord {}
+
 /// An operation by what it does to the structures of a CPU. The number is that of its descriptor.
-#[derive(Clone, Copy)]
+#[derive(Clone, Copy, PartialEq, Eq, Hash, Debug)]
 pub enum Kind {
     /// Adds an amount to a counter.
     Add = 1,
@@ -91,26 +145,12 @@ impl Kind {
         &[Kind::Add, Kind::Push, Kind::Pop, Kind::Put, Kind::Take]
     }
 
+    // stays: as the number of a word does; a trait for both would be longer than the two casts, and they give different types
     /// The number of the operation and of its descriptor.
     pub fn number(self) -> usize
         ensures numbered { result ≡ kind_number self }
     {
         self as usize
-    }
-
-    /// The operation with this number, if there is one.
-    pub fn from_number(number: u64) -> Option<Kind>
-        ensures defined { result ≡ kind_of number }
-        ensures the_one_with_the_number { MatchOption result ((kind : Kind) → kind_number kind ≢ number) (λ kind. kind_number kind ≡ number) }
-    {
-        match number {
-            1 => Some(Kind::Add),
-            2 => Some(Kind::Push),
-            3 => Some(Kind::Pop),
-            4 => Some(Kind::Put),
-            5 => Some(Kind::Take),
-            _ => None,
-        }
     }
 
     /// The words of the operation's section.
@@ -158,3 +198,51 @@ impl Kind {
         }
     }
 }
+
+/// A number that no operation has.
+#[derive(Clone, Copy, PartialEq, Eq, Hash, Debug)]
+pub struct NoSuchKind(pub u64);
+
+/// The operation with a number.
+impl TryFrom<u64> for Kind {
+    type Error = NoSuchKind;
+
+    ghost try_from_gives = { FindsKind };
+
+    fn try_from(number: u64) -> Result<Self, NoSuchKind> {
+        match number {
+            1 => Ok(Kind::Add),
+            2 => Ok(Kind::Push),
+            3 => Ok(Kind::Pop),
+            4 => Ok(Kind::Put),
+            5 => Ok(Kind::Take),
+            _ => Err(NoSuchKind(number)),
+        }
+    }
+}
+
+/// What the operation is called.
+impl fmt::Display for Kind {
+    ghost output = { λ kind. Some (kind_name kind) };
+
+    fn fmt<W: fmt::Write>(&self, f: &mut fmt::Formatter<W>) -> fmt::Result {
+        f.write_str(match self {
+            Kind::Add => "add",
+            Kind::Push => "push",
+            Kind::Pop => "pop",
+            Kind::Put => "put",
+            Kind::Take => "take",
+        })
+    }
+}
+
+/// What is wrong, with the number.
+impl fmt::Display for NoSuchKind {
+    ghost output = { λ e. Some (codes "no operation has the number " ++ decimal e.0) };
+
+    fn fmt<W: fmt::Write>(&self, f: &mut fmt::Formatter<W>) -> fmt::Result {
+        write!(f, "no operation has the number {}", self.0)
+    }
+}
+
+impl Error for NoSuchKind {}
