@@ -2,8 +2,11 @@
 #![tactic(auto)]
 
 ghost use Rattle.faults.specs.declared.Refusal.{Refusal};
-ghost use Rattle.faults.specs.Numbering.{Apart, boot_fault, fault_at, layer_of, number_of};
-ghost use Rattle.std.specs.Prelude.{◌≡◌};
+ghost use Rattle.faults.specs.Numbering.{Apart, boot_fault, cause_text, fault_at, fault_text, layer_name, layer_of, meaning, number_of};
+ghost use Rattle.std.specs.Prelude.{◌≡◌, Some};
+
+use std::error::Error;
+use std::fmt;
 
 /// Why something was refused. Each case has one number, given here and nowhere else.
 #[derive(Clone, Copy, PartialEq, Eq, Debug)]
@@ -57,7 +60,7 @@ pub enum Refusal {
 }
 
 /// The part of the stepping machine that refused.
-#[derive(Clone, Copy)]
+#[derive(Clone, Copy, PartialEq, Eq, Debug)]
 pub enum Layer {
     /// The checks of a descriptor.
     Descriptor,
@@ -96,11 +99,67 @@ impl Refusal {
     pub fn layer(self) -> Layer
         ensures layered { result ≡ layer_of self }
     {
-        match self.number() {
-            3..=8 => Layer::Descriptor,
-            19..=23 => Layer::Schedule,
+        match self {
+            Refusal::Version
+            | Refusal::Flags
+            | Refusal::Unaddressable
+            | Refusal::AbortInside
+            | Refusal::Unsigned
+            | Refusal::WrongWords => Layer::Descriptor,
+            Refusal::NoRoom
+            | Refusal::EndsInside
+            | Refusal::WrongSpelling
+            | Refusal::UnknownLetter
+            | Refusal::BootRefused => Layer::Schedule,
             _ => Layer::Machine,
         }
+    }
+}
+
+/// What the refusal means, in words.
+impl fmt::Display for Refusal {
+    ghost output = { λ refusal. Some (meaning refusal) };
+
+    fn fmt<W: fmt::Write>(&self, f: &mut fmt::Formatter<W>) -> fmt::Result {
+        f.write_str(match self {
+            Refusal::OutOfRange => "a number of the job lies outside its limits",
+            Refusal::ImageLength =>
+                "the descriptor table or the text has a length that it may not have",
+            Refusal::Version => "a descriptor's version is not 0",
+            Refusal::Flags => "a descriptor's flags are not 0",
+            Refusal::Unaddressable => "a descriptor's start, end or abort is 2^32 or more",
+            Refusal::AbortInside => "a descriptor's abort lies inside its own section",
+            Refusal::Unsigned => "the word before a descriptor's abort is not the signature",
+            Refusal::WrongWords => "the text does not have the words of a descriptor's routine",
+            Refusal::OtherSections => "the exclusion's sections are not those of the table",
+            Refusal::NoCpu => "there is no such CPU",
+            Refusal::NoThread => "there is no such thread",
+            Refusal::NoOperation => "there is no such operation",
+            Refusal::Busy => "the thread has an operation already",
+            Refusal::StackFull => "the thread's stack is full",
+            Refusal::Current => "the thread is current on a CPU",
+            Refusal::Idle => "the CPU has no thread",
+            Refusal::NoWork => "the CPU's thread has no operation",
+            Refusal::Held => "the exclusion holds the disturber",
+            Refusal::NoRoom => "a buffer has too little room",
+            Refusal::EndsInside => "the schedule ends inside a part of it, or is too long",
+            Refusal::WrongSpelling => "a number is not in its one spelling",
+            Refusal::UnknownLetter => "no job and no call begins with this letter",
+            Refusal::BootRefused => "the job is refused",
+        })
+    }
+}
+
+/// What the layer is called.
+impl fmt::Display for Layer {
+    ghost output = { λ layer. Some (layer_name layer) };
+
+    fn fmt<W: fmt::Write>(&self, f: &mut fmt::Formatter<W>) -> fmt::Result {
+        f.write_str(match self {
+            Layer::Descriptor => "descriptor",
+            Layer::Schedule => "schedule",
+            Layer::Machine => "machine",
+        })
     }
 }
 
@@ -131,6 +190,32 @@ impl Fault {
         }
     }
 }
+
+/// The refusal with its layer and its place, and what it means.
+impl fmt::Display for Cause {
+    ghost output = { λ cause. Some (cause_text cause) };
+
+    fn fmt<W: fmt::Write>(&self, f: &mut fmt::Formatter<W>) -> fmt::Result {
+        let refusal = self.refusal;
+        let number = refusal.number();
+        let layer = refusal.layer();
+        let place = self.place;
+        write!(f, "refusal {number} of the {layer} at {place}: {refusal}")
+    }
+}
+
+/// The number of the refusal, and its place.
+impl fmt::Display for Fault {
+    ghost output = { λ fault. Some (fault_text fault) };
+
+    fn fmt<W: fmt::Write>(&self, f: &mut fmt::Formatter<W>) -> fmt::Result {
+        let number = self.refusal.number();
+        let place = self.place;
+        write!(f, "{number} {place}")
+    }
+}
+
+impl Error for Fault {}
 
 /// The law of the numbers: no two refusals share one.
 pub fn numbering_law()
