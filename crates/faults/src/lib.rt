@@ -88,6 +88,7 @@ pub struct Fault {
 }
 
 impl Refusal {
+    // stays: a method over the enum's own numbers: `refusal.number()` reads plainer than `u8::from(refusal)`, and is one cast
     /// The number under which the refusal is known.
     pub fn number(self) -> u8
         ensures numbered { result ≡ number_of self }

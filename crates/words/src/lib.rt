@@ -63,7 +63,7 @@ pub enum Word {
 }
 
 impl Word {
-    // stays: a method, not a `From` to each number type: `word.number()` reads plainer than `u32::from(word)`, and the cast is its whole body
+    // stays: a method over the enum's own numbers: `word.number()` reads plainer than `u32::from(word)`, and is one cast
     /// The number that stands for the word in a text.
     pub fn number(self) -> u32
         ensures numbered { result ≡ code self }
@@ -145,7 +145,7 @@ impl Kind {
         &[Kind::Add, Kind::Push, Kind::Pop, Kind::Put, Kind::Take]
     }
 
-    // stays: as the number of a word does; a trait for both would be longer than the two casts, and they give different types
+    // stays: beside the number of a word: a trait for both would be longer than two casts, which give different types
     /// The number of the operation and of its descriptor.
     pub fn number(self) -> usize
         ensures numbered { result ≡ kind_number self }
