@@ -1,6 +1,17 @@
 //! The sample image and the example schedule, worked out apart from the code.
 #![tactic(auto)]
 
+use image::fields::Sizes;
+
+/// The sizes of the job that the sample image and the example schedule make.
+pub const SIZES: Sizes = Sizes {
+    cpus: 1,
+    threads: 2,
+    nodes: 2,
+    packets: 1,
+    counters: 1,
+};
+
 /// The sample text: the five routines in order, each as entry, section, signature and abort.
 pub const TEXT: [u32; 42] = [
     1, 2, 3, 4, 5, 1392848979, 22, 1, 2, 6, 8, 9, 10, 1392848979, 22, 1, 2, 7, 8, 11, 12, 13,
