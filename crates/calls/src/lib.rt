@@ -2,6 +2,12 @@
 //! the call is made.
 #![tactic(auto)]
 
+ghost use Rattle.calls.specs.Texts.{call_text, operation_text};
+ghost use Rattle.std.specs.Prelude.{Some};
+
+use std::fmt;
+use words::Kind;
+
 /// An operation as it is asked for: its kind by number, a counter and an amount.
 #[derive(Clone, Copy, PartialEq, Eq, Debug)]
 pub struct RawOperation {
@@ -41,4 +47,41 @@ pub enum Call {
         thread: u64,
         operation: RawOperation,
     },
+}
+
+/// The operation: its kind by name where it has one, its counter and its amount.
+impl fmt::Display for RawOperation {
+    ghost output = { λ raw. Some (operation_text raw) };
+
+    fn fmt<W: fmt::Write>(&self, f: &mut fmt::Formatter<W>) -> fmt::Result {
+        let number = self.kind;
+        let counter = self.counter;
+        let amount = self.amount;
+        match Kind::try_from(number) {
+            Ok(kind) => write!(f, "{kind} counter {counter} amount {amount}"),
+            Err(_) => write!(f, "kind {number} counter {counter} amount {amount}"),
+        }
+    }
+}
+
+/// The call with its operands in words.
+impl fmt::Display for Call {
+    ghost output = { λ call. Some (call_text call) };
+
+    fn fmt<W: fmt::Write>(&self, f: &mut fmt::Formatter<W>) -> fmt::Result {
+        match self {
+            Call::Enlist { thread, operation } => {
+                write!(f, "enlist thread {thread} operation {operation}")
+            }
+            Call::Run { cpu } => write!(f, "run cpu {cpu}"),
+            Call::Advance { cpu, instructions } => {
+                write!(f, "advance cpu {cpu} instructions {instructions}")
+            }
+            Call::Switch { cpu, thread } => write!(f, "switch cpu {cpu} thread {thread}"),
+            Call::Idle { cpu } => write!(f, "idle cpu {cpu}"),
+            Call::Signal { thread, operation } => {
+                write!(f, "signal thread {thread} operation {operation}")
+            }
+        }
+    }
 }

@@ -86,9 +86,9 @@ meaning BootRefused = codes "the job is refused"
 
 -- What is written of a fault: the number of its refusal, and its place.
 abbrev pub fault_text : Fault → List ℕ
-fault_text fault = decimal (number_of fault.refusal) ++ codes " " ++ decimal fault.place
+fault_text fault = decimal (number_of fault.refusal) ++ (codes " " ++ decimal fault.place)
 
 -- What is written of a fault inside another: its number, its layer, its place and what it means.
 abbrev pub cause_text : Cause → List ℕ
 cause_text cause =
-    codes "refusal " ++ decimal (number_of cause.refusal) ++ codes " of the " ++ layer_name (layer_of cause.refusal) ++ codes " at " ++ decimal cause.place ++ codes ": " ++ meaning cause.refusal
+    codes "refusal " ++ (decimal (number_of cause.refusal) ++ (codes " of the " ++ (layer_name (layer_of cause.refusal) ++ (codes " at " ++ (decimal cause.place ++ (codes ": " ++ meaning cause.refusal))))))
