@@ -3,7 +3,7 @@
 
 use image::fields::Sizes;
 
-/// The sizes of the job that the sample image and the example schedule make.
+/// The sizes of the job of the example schedule.
 pub const SIZES: Sizes = Sizes {
     cpus: 1,
     threads: 2,
