@@ -1,7 +1,8 @@
 -- A new machine, and the checks of a boot.
 use Rattle.std.proofs.Common.{◌≡◌, ℕ, zero, suc, ◌+◌, ◌-◌, ◌<◌, ◌≤◌, Bool, true, false, cond, ◌&&◌, ltb, leb, ◌⊎◌, List, [], ◌∷◌, ◌++◌, length, get_or, take, drop, set, replicate, Ok, Err, unwrap_or, sym, refl, ap, ◌∙◌, subst, inl, inr, ⊎_elim, arith, le-ltb, lt-ltb}
+use Rattle.std.specs.Fn.{Called, Mut}
+use Rattle.std.specs.Array.{IsElementAt, IsFromFnResultFrom, IsFromFnResult}
 use Rattle.std.proofs.lemmas.List.{drop-replicate, drop_more, drop_all, take_more, take_all}
-use Rattle.std.proofs.lemmas.Bool.{le-leb, cases_lt}
 use Rattle.faults.specs.declared.Fault.{Fault}
 use Rattle.faults.specs.declared.Refusal.TheVariants.{OtherSections}
 use Rattle.faults.specs.Numbering.{fault_at}
@@ -25,62 +26,32 @@ use Rattle.model.specs.State.{no_cpu, no_thread, cpu_at, new_thread, new_cpu, ne
 use Rattle.model.specs.Calls.{same_section, section_checks, image_of, booted_core, all_left}
 use Rattle.machine.specs.Sound.{Sound}
 
--- Lists by a function of the index: the same function, one value, and one place written.
-tabulated_same : {A : Type 0} (k : ℕ) (f g : ℕ → A) → ((i : ℕ) → f i ≡ g i) → tabulated k f ≡ tabulated k g
-tabulated_same zero f g same = refl
-tabulated_same (suc k) f g same = ap (λ x. x ∷ tabulated k (λ i. f (suc i))) (same 0) ∙ ap (λ xs. g 0 ∷ xs) (tabulated_same k (λ i. f (suc i)) (λ i. g (suc i)) (λ i. same (suc i)))
+-- A list by a function of the index, from what each call of a closure gave.
+tabulated_each : (ys : List ℕ) (h : ℕ → ℕ) (n : ℕ) → length ys ≡ n → ((i : ℕ) → i < n → get_or ys i 0 ≡ h i) → ys ≡ tabulated n h
+tabulated_each [] h zero long each = refl
+tabulated_each [] h (suc n) long each = absurd (omega arith)
+tabulated_each (y ∷ ys) h zero long each = absurd (omega arith)
+tabulated_each (y ∷ ys) h (suc n) long each =
+    ap (λ x. x ∷ ys) (each 0 (omega arith)) ∙ ap (λ xs. h 0 ∷ xs) (tabulated_each ys (λ i. h (suc i)) n (omega arith) (λ i below. each (suc i) (omega arith)))
 
-tabulated_one : {A : Type 0} (k : ℕ) (x : A) (f : ℕ → A) → ((i : ℕ) → f i ≡ x) → replicate k x ≡ tabulated k f
-tabulated_one zero x f all = refl
-tabulated_one (suc k) x f all = ap (λ y. y ∷ replicate k x) (sym (all 0)) ∙ ap (λ xs. f 0 ∷ xs) (tabulated_one k x (λ i. f (suc i)) (λ i. all (suc i)))
+module _ {F : Type 0} (g : Mut F (ℕ × Unit {0}) ℕ) (h : ℕ → ℕ) where
+  gave_from : (f : F) (ys : List ℕ) (i n : ℕ) → ((j y : ℕ) (q : F) → Called g f (j, tt) y q → (q ≡ f) × (y ≡ h j)) → IsFromFnResultFrom g f ys i n → (k : ℕ) → k < n → get_or ys (i + k) 0 ≡ h (i + k)
+  gave_from f ys i zero calls gave k below = absurd (omega arith)
+  gave_from f ys i (suc n) calls (q, y, here, called, gave) zero below =
+      ap (λ k. get_or ys k 0) (let e : i + 0 ≡ i = omega arith in e) ∙ here.1 0 ∙ (calls i y q called).1 ∙ ap h (omega arith)
+  gave_from f ys i (suc n) calls (q, y, here, called, gave) (suc k) below =
+      let e : i + suc k ≡ i + 1 + k = omega arith in
+      ap (λ m. get_or ys m 0) e
+      ∙ gave_from f ys (i + 1) n calls (subst (λ p. IsFromFnResultFrom g p ys (i + 1) n) (calls i y q called).0 gave) k (omega arith)
+      ∙ ap h (sym e)
 
-tabulated_set : {A : Type 0} (k : ℕ) (f g : ℕ → A) (i : ℕ) (x : A) → g i ≡ x → ((j : ℕ) → (j ≡ i → ⊥) → f j ≡ g j) → set (tabulated k f) i x ≡ tabulated k g
-tabulated_set zero f g i x here else = refl
-tabulated_set (suc k) f g zero x here else =
-    ap (λ y. y ∷ tabulated k (λ j. f (suc j))) (sym here) ∙ ap (λ xs. g 0 ∷ xs) (tabulated_same k (λ j. f (suc j)) (λ j. g (suc j)) (λ j. else (suc j) (λ e. omega arith)))
-tabulated_set (suc k) f g (suc i) x here else =
-    ap (λ y. y ∷ set (tabulated k (λ j. f (suc j))) i x) (else 0 (λ e. omega arith))
-    ∙ ap (λ xs. g 0 ∷ xs) (tabulated_set k (λ j. f (suc j)) (λ j. g (suc j)) i x here (λ j other. else (suc j) (λ e. other (omega arith))))
-
--- The next word of a node, where nodes below `end` are linked.
-abbrev link : ℕ → ℕ → ℕ
-link end node = cond (leb 1 node && ltb node end) (node + 1) 0
-
--- How far the loop that links nodes has come.
-abbrev pub Linked : ℕ → ℕ → List ℕ → Type 0
-Linked nodes node next = (next ≡ tabulated 256 (link node)) × ((node ≡ 1) ⊎ (node ≤ nodes))
-
-link_none : (end i : ℕ) → end ≤ 1 → link end i ≡ 0
-link_none end zero h = refl
-link_none end (suc i) h = ap (λ b. cond (leb 1 (suc i) && b) (suc i + 1) 0) (le-ltb (suc i) end (omega arith)) ∙ either (leb 1 (suc i))
-  where
-    either : (b : Bool) → cond (b && false) (suc i + 1) 0 ≡ 0
-    either true = refl
-    either false = refl
-
-link_here : (i : ℕ) → 1 ≤ i → link (i + 1) i ≡ i + 1
-link_here i h = ap (λ b. cond (b && ltb i (i + 1)) (i + 1) 0) (le-leb 1 i h) ∙ ap (λ b. cond b (i + 1) 0) (lt-ltb i (i + 1) (omega arith))
-
-link_else : (i j : ℕ) → (j ≡ i → ⊥) → link i j ≡ link (i + 1) j
-link_else i j other = ap (λ b. cond (leb 1 j && b) (j + 1) 0) same
-  where
-    same : ltb j i ≡ ltb j (i + 1)
-    same = ⊎_elim (λ (below : j < i). lt-ltb j i below ∙ sym (lt-ltb j (i + 1) (omega arith))) (λ (above : i ≤ j). le-ltb j i above ∙ sym (le-ltb j (i + 1) (omega arith))) (cases_lt j i)
-
-pub none_linked : (nodes : ℕ) → Linked nodes 1 (replicate 256 0)
-none_linked nodes = (tabulated_one 256 0 (link 1) (λ i. link_none 1 i (omega arith)), inl refl)
-
-pub one_linked : (nodes i : ℕ) (next : List ℕ) → 1 ≤ i → i < nodes → Linked nodes i next → Linked nodes (i + 1) (set next i (i + 1))
-one_linked nodes i next low high (is, at) = (ap (λ xs. set xs i (i + 1)) is ∙ tabulated_set 256 (link i) (link (i + 1)) i (i + 1) (link_here i low) (link_else i), inr (omega arith))
-
-pub all_linked : (nodes i : ℕ) (next : List ℕ) → nodes ≤ i → Linked nodes i next → next ≡ tabulated 256 (link nodes)
-all_linked nodes i next end (is, at) =
-    is ∙ ⊎_elim (λ (first : i ≡ 1). tabulated_same 256 (link i) (link nodes) (λ j. link_none i j (omega arith) ∙ sym (link_none nodes j (omega arith))))
-    (λ (low : i ≤ nodes). let e : i ≡ nodes = omega arith in ap (λ n. tabulated 256 (link n)) e) at
+  pub tabulated_from : (f : F) (ys : List ℕ) (n : ℕ) → ((j y : ℕ) (q : F) → Called g f (j, tt) y q → (q ≡ f) × (y ≡ h j)) → IsFromFnResult g f ys n → ys ≡ tabulated n h
+  tabulated_from f ys n calls gave =
+      tabulated_each ys h n gave.long (λ i below. let e : 0 + i ≡ i = omega arith in ap (λ m. get_or ys m 0) (sym e) ∙ gave_from f ys 0 n calls gave.each i below ∙ ap h e)
 
 -- A machine of new parts is a new one.
 pub of_new_parts : (sizes : Sizes) (image : Image) (first : ℕ) (one other : Cpu) (thread : Thread) (next : List ℕ) → first ≡ cond (ltb 0 sizes.nodes) 1 0 → one ≡ new_cpu first
-    → other ≡ new_cpu 0 → thread ≡ new_thread → next ≡ tabulated 256 (link sizes.nodes)
+    → other ≡ new_cpu 0 → thread ≡ new_thread → next ≡ tabulated 256 (λ node. cond (leb 1 node && ltb node sizes.nodes) (node + 1) 0)
     → ◌≡◌ {A = Core} (record { sizes = sizes; image = image; cpus = one ∷ replicate 7 other; threads = replicate 16 thread; next = next }) (new_core sizes image)
 of_new_parts sizes image first one other thread next f p q t n =
     ap (λ (x : Cpu). record { sizes = sizes; image = image; cpus = x ∷ replicate 7 other; threads = replicate 16 thread; next = next }) (p ∙ ap new_cpu f)

@@ -1,24 +1,17 @@
 -- The walk over the CPUs, and the walks over lists and rings, met step by step.
-use Rattle.std.proofs.Common.{◌≡◌, ℕ, zero, suc, ◌+◌, ◌-◌, ◌<◌, ◌≤◌, Bool, true, false, cond, List, length, get_or, drop, Some, None, sym, ap, ◌∙◌, arith}
-use Rattle.std.proofs.lemmas.List.{drop_more, drop_all}
+use Rattle.std.proofs.Common.{◌≡◌, ℕ, zero, suc, ◌+◌, ◌-◌, ◌<◌, ◌≤◌, Bool, true, false, cond, List, [], ◌∷◌, Some, None, sym, refl, ap, ◌∙◌, arith}
+use Rattle.std.specs.List.{position_from}
 use Rattle.model.specs.declared.state.Cpu.{Cpu}
-use Rattle.model.specs.State.{no_cpu}
 use Rattle.model.specs.Questions.{reached}
 use Rattle.lives.specs.Apart.{cpu_among}
+use Rattle.machine.specs.Promises.{Walks}
 use Rattle.model.specs.Claims.{is_thread}
 
--- The CPUs from number i on: the first of them has the thread, or the others decide; and behind the last there is none.
-module _ (cpus : List Cpu) (i t : ℕ) where
-  pub cpu_here : i < length cpus → is_thread t (get_or cpus i no_cpu).current ≡ true → cpu_among (drop i cpus) i t ≡ Some i
-  cpu_here h e = ap (λ xs. cpu_among xs i t) (drop_more cpus i no_cpu h) ∙ ap (λ b. cond b (Some i) (cpu_among (drop (i + 1) cpus) (suc i) t)) e
-
-  pub cpu_further : i < length cpus → is_thread t (get_or cpus i no_cpu).current ≡ false → cpu_among (drop i cpus) i t ≡ cpu_among (drop (i + 1) cpus) (i + 1) t
-  cpu_further h e =
-      ap (λ xs. cpu_among xs i t) (drop_more cpus i no_cpu h) ∙ ap (λ b. cond b (Some i) (cpu_among (drop (i + 1) cpus) (suc i) t)) e
-      ∙ ap (λ k. cpu_among (drop (i + 1) cpus) k t) (omega arith)
-
-  pub cpu_nowhere : length cpus ≤ i → cpu_among (drop i cpus) i t ≡ None
-  cpu_nowhere h = ap (λ xs. cpu_among xs i t) (drop_all i cpus h)
+-- The first of some CPUs, counted from c on, that has the thread, as the library finds it.
+pub first_with : (t c : ℕ) (cpus : List Cpu) → position_from (λ (cpu : Cpu). is_thread t cpu.current) c cpus ≡ cpu_among cpus c t
+first_with t c [] = refl
+first_with t c (cpu ∷ cpus) =
+    ap (cond (is_thread t cpu.current) (Some c)) (ap (λ k. position_from (λ (x : Cpu). is_thread t x.current) k cpus) (omega arith) ∙ first_with t (suc c) cpus)
 
 -- A walk ends where the end is met, has arrived where no step is left, and else goes on.
 module _ (ends : ℕ → Bool) (onward : ℕ → ℕ) where
@@ -37,3 +30,21 @@ module _ (ends : ℕ → Bool) (onward : ℕ → ℕ) where
   reached_on place further zero e some is = absurd (omega arith)
   reached_on place further (suc steps) e some is =
       ap (λ b. cond b None (reached ends onward (onward place) steps)) e ∙ ap (λ k. reached ends onward k steps) (sym is) ∙ ap (reached ends onward further) (omega arith)
+
+-- A walk that has come to a place, with so many steps left, by a test that answers and a step that leads.
+module _ (answers : ℕ → Bool → Type 0) (leads : ℕ → ℕ → Type 0) where
+  abbrev pub OnTheWay : ℕ → ℕ → ℕ → ℕ → Type 0
+  OnTheWay place left first steps =
+      (ends : ℕ → Bool) (onward : ℕ → ℕ) → ((x : ℕ) (b : Bool) → answers x b → b ≡ ends x) → ((x y : ℕ) → leads x y → y ≡ onward x)
+      → reached ends onward place left ≡ reached ends onward first steps
+
+  pub walk_ends : (place left first steps : ℕ) → answers place true → OnTheWay place left first steps → Walks answers leads first steps None
+  walk_ends place left first steps answered way ends onward tests goes = sym (reached_ends ends onward place left (sym (tests place true answered))) ∙ way ends onward tests goes
+
+  pub walk_arrives : (place left first steps : ℕ) → answers place false → left ≡ 0 → OnTheWay place left first steps → Walks answers leads first steps (Some place)
+  walk_arrives place left first steps answered none way ends onward tests goes =
+      sym (reached_here ends onward place left (sym (tests place false answered)) none) ∙ way ends onward tests goes
+
+  pub walk_goes_on : (place further left less first steps : ℕ) → answers place false → leads place further → 0 < left → less ≡ left - 1 → OnTheWay place left first steps → OnTheWay further less first steps
+  walk_goes_on place further left less first steps answered led some one way ends onward tests goes =
+      ap (reached ends onward further) one ∙ sym (reached_on ends onward place further left (sym (tests place false answered)) some (goes place further led)) ∙ way ends onward tests goes

@@ -1,7 +1,9 @@
 -- What the coded calls promise: their answers as answers of the definitions, the checks, the parts that calls are made of, and
 -- what holds of every past.
-use Rattle.std.specs.Prelude.{◌≡◌, ℕ, ◌<◌, Bool, true, false, List, [], ◌∷◌, Some, None, Ok, Err, Option, Result}
+use Rattle.std.specs.Prelude.{◌≡◌, ℕ, ◌<◌, ◌≤◌, Bool, nat_lt, List, [], ◌∷◌, Some, None, Ok, Err, Option, Result}
 use Rattle.faults.specs.declared.Fault.{Fault}
+use Rattle.faults.specs.declared.Refusal.{Refusal}
+use Rattle.faults.specs.Numbering.{fault_at}
 use Rattle.image.specs.Checks.{Check, all_pass}
 use Rattle.image.specs.declared.fields.Sizes.{Sizes}
 use Rattle.calls.specs.declared.RawOperation.{RawOperation}
@@ -13,11 +15,11 @@ use Rattle.model.specs.declared.state.Operation.{Operation}
 use Rattle.model.specs.declared.state.Core.{Core}
 use Rattle.model.specs.declared.state.Settling.{Settling}
 use Rattle.model.specs.State.{cpu_at, thread_at}
-use Rattle.model.specs.Calls.{Granted, Answered, refused, accepted, ran, advanced, operation_of, has_cpu, has_thread, is_operation, has_no_frame, has_room, not_current, has_current, has_work, Disturbs, DisturbsCurrent}
+use Rattle.model.specs.Calls.{Granted, Answered, refused, accepted, ran, advanced, operation_of, check, has_cpu, has_thread, is_operation, not_current, has_current, has_work, Disturbs, DisturbsCurrent}
 use Rattle.model.specs.Life.{Event, ledger, Life}
 use Rattle.lives.specs.Whole.{WhollyFaithful}
 use Rattle.lives.specs.Apart.{given_thread, with_frame}
-use Rattle.model.specs.Questions.{item_at}
+use Rattle.model.specs.Questions.{item_at, reached}
 
 -- The answers of the coded calls as answers of the definitions.
 abbrev pub accept_answer : Result (Unit {0}) Fault → Answered
@@ -40,16 +42,19 @@ abbrev pub Working : Core → ℕ → Result ℕ Fault → Type 0
 Working core cpu (Ok t) = (all_pass (working_checks core cpu) ≡ Ok tt) × ((cpu_at core cpu).current ≡ Some t) × (cpu < core.sizes.cpus)
 Working core cpu (Err fault) = all_pass (working_checks core cpu) ≡ Err fault
 
--- The checks of the other calls, and what is known where they all pass.
-abbrev pub enlist_checks : Core → ℕ → RawOperation → List Check
-enlist_checks core t raw = has_thread core t ∷ is_operation core raw ∷ has_no_frame core t ∷ []
-
-abbrev pub signal_checks : Core → ℕ → RawOperation → List Check
-signal_checks core t raw = has_thread core t ∷ is_operation core raw ∷ has_room core t ∷ []
+-- The checks of a call that begins an operation, by how many frames a stack may not have and how a stack with as many is refused;
+-- those of the other calls; and what is known where they all pass.
+abbrev pub begin_checks : Core → ℕ → RawOperation → ℕ → Refusal → List Check
+begin_checks core t raw room full = has_thread core t ∷ is_operation core raw ∷ check (nat_lt (thread_at core t).depth room) full ∷ []
 
 abbrev pub CanBegin : List Check → Core → ℕ → RawOperation → Result Operation Fault → Type 0
 CanBegin checks core t raw (Ok operation) = (all_pass checks ≡ Ok tt) × (operation_of core.sizes raw ≡ Some operation) × (t < core.sizes.threads) × ((thread_at core t).depth < 8)
 CanBegin checks core t raw (Err fault) = all_pass checks ≡ Err fault
+
+-- A number as an index below a limit, or its refusal.
+abbrev pub IndexBelow : ℕ → ℕ → Refusal → Result ℕ Fault → Type 0
+IndexBelow n limit refusal (Ok i) = (i ≡ n) × (n < limit)
+IndexBelow n limit refusal (Err fault) = (limit ≤ n) × (fault ≡ fault_at refusal 0)
 
 abbrev pub switch_checks : Core → ℕ → ℕ → List Check
 switch_checks core cpu t = has_cpu core cpu ∷ has_thread core t ∷ not_current core t ∷ []
@@ -86,10 +91,10 @@ module _ {E : Type 0} (meaning : E → Meaning) (told : E → Notice → E → T
   RingItemOfTheLedger m cpu position r =
       (sizes : Sizes) (past : List Event) → Life meaning told answers sizes past m → cpu < sizes.cpus → r ≡ Ok (item_at ((ledger sizes past).rings cpu) position)
 
--- What a disturbing leaves, by whether the call goes on: the machine, or none where the call is held.
-abbrev pub outcome : Bool → Core → Option Core
-outcome true core = Some core
-outcome false core = None
+-- What a disturbing leaves: the machine, or none where the call is held.
+abbrev pub outcome : Result (Unit {0}) Fault → Core → Option Core
+outcome (Ok u) core = Some core
+outcome (Err fault) core = None
 
 module _ {E : Type 0} (told : E → Notice → E → Type 0) (answers : E → ℕ → ℕ → ℕ → Verdict → Type 0) where
   -- A CPU's thread is disturbed, and the CPU is given another, or none.
@@ -99,3 +104,10 @@ module _ {E : Type 0} (told : E → Notice → E → Type 0) (answers : E → �
   -- A thread that a CPU has is disturbed, and gets an operation on top.
   abbrev pub Interrupts : Core × E → ℕ → ℕ → Operation → Answered → Core × E → Type 0
   Interrupts m cpu t operation r k = (o : Option Core) × Disturbs told answers m cpu t o × Granted told answers m cpu o (with_frame t operation) r k
+
+-- Where one is after so many steps, by a test of the end that answers so and a step that leads there: whatever functions of a
+-- place the test and the step are, the place is the one that is reached by them.
+abbrev pub Walks : (ℕ → Bool → Type 0) → (ℕ → ℕ → Type 0) → ℕ → ℕ → Option ℕ → Type 0
+Walks answers leads first steps r =
+    (ends : ℕ → Bool) (onward : ℕ → ℕ) → ((place : ℕ) (b : Bool) → answers place b → b ≡ ends place) → ((place next : ℕ) → leads place next → next ≡ onward place)
+    → r ≡ reached ends onward first steps

@@ -1,9 +1,9 @@
 //! What is asked of a machine: the operation that is meant, the CPU that has a thread, and the items of the structures.
-ghost use Rattle.std.specs.Prelude.{◌≡◌, ◌+◌, ◌%◌, ◌≤◌, nat_eq, slice_index};
+ghost use Rattle.std.specs.Prelude.{◌≡◌, ◌≤◌};
 ghost use Rattle.model.specs.Calls.{operation_of};
-ghost use Rattle.model.specs.Questions.{counter_told, hand_told, list_item_told, reached, ring_item_told};
+ghost use Rattle.model.specs.Questions.{counter_told, hand_told, list_item_told, ring_item_told};
 ghost use Rattle.lives.specs.Apart.{cpu_among};
-ghost use Rattle.model.specs.Claims.{is_thread};
+ghost use Rattle.machine.specs.Promises.{IndexBelow, Walks};
 
 use crate::perform::{behind, read};
 use calls::RawOperation;
@@ -31,13 +31,14 @@ pub fn operation_of(sizes: Sizes, raw: RawOperation) -> Option<Operation>
     }
 }
 
-/// Whether what a CPU has, a thread or none, is thread t.
-fn is_thread(current: Option<usize>, t: usize) -> bool
-    ensures { result ≡ is_thread t current }
+/// A number as an index, where it is below a limit; else the refusal.
+pub fn index_below(n: u64, limit: u64, refusal: Refusal) -> Result<usize, Fault>
+    ensures { IndexBelow n limit refusal result }
 {
-    match current {
-        Some(s) => s == t,
-        None => false,
+    if n < limit {
+        Ok(n as usize)
+    } else {
+        Err(Fault::at(refusal, 0))
     }
 }
 
@@ -45,12 +46,28 @@ fn is_thread(current: Option<usize>, t: usize) -> bool
 pub fn cpu_of(cpus: &[Cpu; 8], t: usize) -> Option<usize>
     ensures { result ≡ cpu_among cpus.now 0 t }
 {
-    for (i, cpu) in cpus.iter().enumerate() {
-        if is_thread(cpu.current, t) {
-            return Some(i);
+    cpus.iter().position(|cpu| cpu.current == Some(t))
+}
+
+/// Where one is after so many steps from a place on, or none where the end is met on the way.
+fn reached<Ends: Fn(u64) -> bool, Onward: Fn(u64) -> u64>(
+    ends: Ends,
+    onward: Onward,
+    first: u64,
+    steps: u64,
+) -> Option<u64>
+    requires ends_is_asked { Ends.IsAlwaysCallable ends }
+    requires onward_is_asked { Onward.IsAlwaysCallable onward }
+    ensures { Walks (λ place answer. Ends.post ends place answer) (λ place next. Onward.post onward place next) first steps result }
+{
+    let mut place = first;
+    for _ in 0..steps {
+        if ends(place) {
+            return None;
         }
+        place = onward(place);
     }
-    None
+    if ends(place) { None } else { Some(place) }
 }
 
 /// What a counter of a CPU stands at.
@@ -58,13 +75,9 @@ pub fn counter(core: &Core, cpu: u64, counter: u64) -> Result<u64, Fault>
     requires { core.now.sizes.cpus ≤ 8 }
     ensures { result ≡ counter_told core.now cpu counter }
 {
-    if cpu >= core.sizes.cpus {
-        return Err(Fault::at(Refusal::NoCpu, 0));
-    }
-    if counter >= core.sizes.counters {
-        return Err(Fault::at(Refusal::NoOperation, 0));
-    }
-    Ok(read(&core.cpus[cpu as usize].counters, counter))
+    let cpu = index_below(cpu, core.sizes.cpus, Refusal::NoCpu)?;
+    index_below(counter, core.sizes.counters, Refusal::NoOperation)?;
+    Ok(read(&core.cpus[cpu].counters, counter))
 }
 
 /// The node in a thread's hand, if there is one.
@@ -72,45 +85,12 @@ pub fn hand(core: &Core, thread: u64) -> Result<Option<u64>, Fault>
     requires { core.now.sizes.threads ≤ 16 }
     ensures { result ≡ hand_told core.now thread }
 {
-    if thread >= core.sizes.threads {
-        return Err(Fault::at(Refusal::NoThread, 0));
-    }
-    match core.threads[thread as usize].hand {
+    let thread = index_below(thread, core.sizes.threads, Refusal::NoThread)?;
+    // stays: a rule of the project is that a hand is taken apart wherever its node is used or told
+    match core.threads[thread].hand {
         Some(node) => Ok(Some(node)),
         None => Ok(None),
     }
-}
-
-/// The node at a position of a list, counted from 0, or none where the list ends before it.
-fn walk_list(next: &[u64; 256], head: u64, position: u64) -> Option<u64>
-    ensures { result ≡ reached (λ node. nat_eq node 0) (λ node. slice_index next.now node) head position }
-{
-    let mut node = head;
-    let mut steps = position;
-    while node != 0 {
-        if steps == 0 {
-            return Some(node);
-        }
-        node = read(next, node);
-        steps -= 1;
-    }
-    None
-}
-
-/// The slot at a position of a ring, counted from 0 at the head, or none where the tail comes before it.
-fn walk_ring(head: u64, tail: u64, packets: u64, position: u64) -> Option<u64>
-    ensures { result ≡ reached (λ slot. nat_eq slot tail) (λ slot. (slot + 1) % (packets + 1)) head position }
-{
-    let mut slot = head;
-    let mut steps = position;
-    while slot != tail {
-        if steps == 0 {
-            return Some(slot);
-        }
-        slot = behind(slot, packets);
-        steps -= 1;
-    }
-    None
 }
 
 /// The node at a position of a CPU's list, or none where the list ends before it.
@@ -118,10 +98,14 @@ pub fn list_item(core: &Core, cpu: u64, position: u64) -> Result<Option<u64>, Fa
     requires { core.now.sizes.cpus ≤ 8 }
     ensures { result ≡ list_item_told core.now cpu position }
 {
-    if cpu >= core.sizes.cpus {
-        return Err(Fault::at(Refusal::NoCpu, 0));
-    }
-    Ok(walk_list(&core.next, core.cpus[cpu as usize].list, position))
+    let cpu = index_below(cpu, core.sizes.cpus, Refusal::NoCpu)?;
+    let head = core.cpus[cpu].list;
+    Ok(reached(
+        |node| node == 0,
+        |node| read(&core.next, node),
+        head,
+        position,
+    ))
 }
 
 /// The packet at a position of a CPU's ring, or none where the ring ends before it.
@@ -129,12 +113,14 @@ pub fn ring_item(core: &Core, cpu: u64, position: u64) -> Result<Option<u64>, Fa
     requires { core.now.sizes.cpus ≤ 8 }
     ensures { result ≡ ring_item_told core.now cpu position }
 {
-    if cpu >= core.sizes.cpus {
-        return Err(Fault::at(Refusal::NoCpu, 0));
-    }
-    let ring = &core.cpus[cpu as usize];
-    match walk_ring(ring.head, ring.tail, core.sizes.packets, position) {
-        Some(slot) => Ok(Some(read(&ring.slots, slot))),
-        None => Ok(None),
-    }
+    let cpu = index_below(cpu, core.sizes.cpus, Refusal::NoCpu)?;
+    let ring = core.cpus[cpu];
+    let packets = core.sizes.packets;
+    let slot = reached(
+        |slot| slot == ring.tail,
+        |slot| behind(slot, packets),
+        ring.head,
+        position,
+    );
+    Ok(slot.map(|slot| read(&ring.slots, slot)))
 }

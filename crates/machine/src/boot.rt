@@ -3,7 +3,7 @@ ghost use Rattle.std.specs.Prelude.{◌≡◌, ◌+◌, ◌-◌, ◌≤◌, ◌&
 ghost use Rattle.exclusion.specs.Meaning.{ToldAll};
 ghost use Rattle.image.specs.Checks.{all_pass};
 ghost use Rattle.machine.specs.Sound.{Sound};
-ghost use Rattle.model.specs.Calls.{all_left, booted_core, same_section, section_checks};
+ghost use Rattle.model.specs.Calls.{all_left, booted_core, section_checks};
 ghost use Rattle.model.specs.State.{new_core, new_cpu, new_thread, tabulated};
 ghost use Rattle.words.specs.Words.{kinds};
 
@@ -12,27 +12,20 @@ use faults::{Fault, Refusal};
 use image::checks::check_image;
 use image::fields::Sizes;
 use image::layout::Section;
-use model::state::{Core, Cpu, Frame, Image, Operation, Thread};
+use model::state::{Core, Cpu, Image, NO_FRAME, Thread};
+use std::array;
 use words::Kind;
 
 /// A new thread: registers of 0, an empty stack and an empty hand.
 fn new_thread() -> Thread
     ensures { result ≡ new_thread }
 {
-    let frame = Frame {
-        operation: Operation::Add {
-            counter: 0,
-            amount: 0,
-        },
-        place: 0,
-        armed: 0,
-    };
     Thread {
         q: 0,
         a: 0,
         b: 0,
         w: 0,
-        frames: [frame; 8],
+        frames: [NO_FRAME; 8],
         depth: 0,
         hand: None,
     }
@@ -52,17 +45,25 @@ fn new_cpu(first: u64) -> Cpu
     }
 }
 
-/// The next words of nodes 1 to `nodes` on one list in ascending order. The last node has no next, and its word is 0, as is
-/// that of every number that is no node.
+/// The next word of a number where nodes 1 to `nodes` are on one list in ascending order: 0 for the last node, which has no
+/// next, and for a number that is no node.
+fn next_of(node: u64, nodes: u64) -> u64
+    requires { nodes ≤ 255 }
+    ensures { result ≡ (if nat_le 1 node && nat_lt node nodes then node + 1 else 0) }
+{
+    if 1 <= node && node < nodes {
+        node + 1
+    } else {
+        0
+    }
+}
+
+/// The next words of nodes 1 to `nodes` on one list in ascending order.
 fn linked(nodes: u64) -> [u64; 256]
     requires { nodes ≤ 255 }
     ensures { result ≡ tabulated 256 (λ node. (if nat_le 1 node && nat_lt node nodes then node + 1 else 0)) }
 {
-    let mut next = [0; 256];
-    for node in 1..nodes {
-        next[node as usize] = node + 1;
-    }
-    next
+    array::from_fn(|node| next_of(node as u64, nodes))
 }
 
 /// The first of so many nodes, and 0 where there are none.
@@ -102,20 +103,13 @@ fn image_of(sections: [Section; 5], text: &[u32]) -> Image
     }
 }
 
-/// Whether two sections are the same.
-fn same_section(one: Section, other: Section) -> bool
-    ensures { result ≡ same_section one other }
-{
-    one.start == other.start && one.length == other.length && one.abort == other.abort
-}
-
 /// Compares an exclusion's sections of operations with the table's, in their order: the first that differs is the fault.
 fn compare_kinds<E: Exclusion>(exclusion: &E, table: &[u8], these: &[Kind]) -> Result<(), Fault>
     ensures { result ≡ all_pass (section_checks (E.Exclusion.meaning exclusion.now).section table.now these.now) }
 {
     for kind in these {
         let d = kind.number();
-        if !same_section(exclusion.section(d), Section::of(table, *kind)) {
+        if exclusion.section(d) != Section::of(table, *kind) {
             return Err(Fault::at(Refusal::OtherSections, d));
         }
     }

@@ -1,7 +1,7 @@
 //! The machine over an exclusion, with its calls.
 ghost use Rattle.std.specs.Prelude.{◌≡◌, ℕ, ◌<◌, ◌≤◌, IfOk, Ok, Err, MatchResult};
 ghost use Rattle.calls.specs.declared.Call.TheVariants.{Advance, Enlist, Idle, Run, Signal, Switch};
-ghost use Rattle.machine.specs.Promises.{BeginsFaithful, CanBegin, CanChange, Changes, CounterOfTheLedger, HandOfTheLedger, Interrupts, ListItemOfTheLedger, RingItemOfTheLedger, StaysFaithful, Working, accept_answer, advance_answer, enlist_checks, idle_checks, run_answer, signal_checks, switch_checks};
+ghost use Rattle.machine.specs.Promises.{BeginsFaithful, CanBegin, CanChange, Changes, CounterOfTheLedger, HandOfTheLedger, Interrupts, ListItemOfTheLedger, RingItemOfTheLedger, StaysFaithful, Working, accept_answer, advance_answer, begin_checks, idle_checks, run_answer, switch_checks};
 ghost use Rattle.machine.specs.Sound.{Sound};
 ghost use Rattle.model.specs.Calls.{Stopped, Boots, Performs, Runs, Step, ToldIf};
 ghost use Rattle.model.specs.Questions.{counter_told, hand_told, list_item_told, ring_item_told};
@@ -9,7 +9,7 @@ ghost use Rattle.model.specs.State.{thread_at};
 ghost use Rattle.std.specs.Option.{unwrap_or};
 
 use crate::asking;
-use crate::asking::{cpu_of, operation_of};
+use crate::asking::{cpu_of, index_below, operation_of};
 use crate::boot::boot_parts;
 use crate::disturb::{disturb, disturb_current};
 use crate::parts::{add_frame, give_thread};
@@ -64,10 +64,8 @@ impl<E: Exclusion> Machine<E> {
     fn working(&self, cpu: u64) -> Result<usize, Fault>
         ensures checked { Working self.now.core cpu result }
     {
-        if cpu >= self.core.sizes.cpus {
-            return Err(Fault::at(Refusal::NoCpu, 0));
-        }
-        let Some(t) = self.core.cpus[cpu as usize].current else {
+        let cpu = index_below(cpu, self.core.sizes.cpus, Refusal::NoCpu)?;
+        let Some(t) = self.core.cpus[cpu].current else {
             return Err(Fault::at(Refusal::Idle, 0));
         };
         if self.core.threads[t].depth == 0 {
@@ -76,34 +74,24 @@ impl<E: Exclusion> Machine<E> {
         Ok(t)
     }
 
-    /// Whether enlist may begin an operation; or the refusal.
-    fn can_enlist(&self, thread: u64, raw: RawOperation) -> Result<Operation, Fault>
-        ensures checked { CanBegin (enlist_checks self.now.core thread raw) self.now.core thread raw result }
+    /// The operation that a call may begin on a thread's stack, as far as it does not go by the exclusion; or the refusal, which is
+    /// `full` for a stack of `room` frames or more.
+    fn can_begin(
+        &self,
+        thread: u64,
+        raw: RawOperation,
+        room: usize,
+        full: Refusal,
+    ) -> Result<Operation, Fault>
+        requires { room ≤ 8 }
+        ensures checked { CanBegin (begin_checks self.now.core thread raw room full) self.now.core thread raw result }
     {
-        if thread >= self.core.sizes.threads {
-            return Err(Fault::at(Refusal::NoThread, 0));
-        }
+        let t = index_below(thread, self.core.sizes.threads, Refusal::NoThread)?;
         let Some(operation) = operation_of(self.core.sizes, raw) else {
             return Err(Fault::at(Refusal::NoOperation, 0));
         };
-        if self.core.threads[thread as usize].depth != 0 {
-            return Err(Fault::at(Refusal::Busy, 0));
-        }
-        Ok(operation)
-    }
-
-    /// Whether a signal may begin an operation, as far as it does not go by the exclusion; or the refusal.
-    fn can_signal(&self, thread: u64, raw: RawOperation) -> Result<Operation, Fault>
-        ensures checked { CanBegin (signal_checks self.now.core thread raw) self.now.core thread raw result }
-    {
-        if thread >= self.core.sizes.threads {
-            return Err(Fault::at(Refusal::NoThread, 0));
-        }
-        let Some(operation) = operation_of(self.core.sizes, raw) else {
-            return Err(Fault::at(Refusal::NoOperation, 0));
-        };
-        if self.core.threads[thread as usize].depth >= 8 {
-            return Err(Fault::at(Refusal::StackFull, 0));
+        if self.core.threads[t].depth >= room {
+            return Err(Fault::at(full, 0));
         }
         Ok(operation)
     }
@@ -112,26 +100,20 @@ impl<E: Exclusion> Machine<E> {
     fn can_switch(&self, cpu: u64, thread: u64) -> Result<(), Fault>
         ensures checked { CanChange (switch_checks self.now.core cpu thread) self.now.core cpu result }
     {
-        if cpu >= self.core.sizes.cpus {
-            return Err(Fault::at(Refusal::NoCpu, 0));
+        index_below(cpu, self.core.sizes.cpus, Refusal::NoCpu)?;
+        index_below(thread, self.core.sizes.threads, Refusal::NoThread)?;
+        match cpu_of(&self.core.cpus, thread as usize) {
+            Some(_) => Err(Fault::at(Refusal::Current, 0)),
+            None => Ok(()),
         }
-        if thread >= self.core.sizes.threads {
-            return Err(Fault::at(Refusal::NoThread, 0));
-        }
-        if let Some(_) = cpu_of(&self.core.cpus, thread as usize) {
-            return Err(Fault::at(Refusal::Current, 0));
-        }
-        Ok(())
     }
 
     /// Whether idle may be tried; or the refusal.
     fn can_idle(&self, cpu: u64) -> Result<(), Fault>
         ensures checked { CanChange (idle_checks self.now.core cpu) self.now.core cpu result }
     {
-        if cpu >= self.core.sizes.cpus {
-            return Err(Fault::at(Refusal::NoCpu, 0));
-        }
-        if let None = self.core.cpus[cpu as usize].current {
+        let cpu = index_below(cpu, self.core.sizes.cpus, Refusal::NoCpu)?;
+        if self.core.cpus[cpu].current.is_none() {
             return Err(Fault::at(Refusal::Idle, 0));
         }
         Ok(())
@@ -159,7 +141,7 @@ impl<E: Exclusion> Machine<E> {
     fn enlist_one(&mut self, thread: u64, raw: RawOperation) -> Result<(), Fault>
         ensures does { Step E.Exclusion.told E.Exclusion.answers (self.old.core, self.old.exclusion) (Enlist thread raw) (accept_answer result) (self.new.core, self.new.exclusion) }
     {
-        let operation = self.can_enlist(thread, raw)?;
+        let operation = self.can_begin(thread, raw, 1, Refusal::Busy)?;
         add_frame(&mut self.core, thread as usize, operation);
         Ok(())
     }
@@ -169,9 +151,7 @@ impl<E: Exclusion> Machine<E> {
         requires { (cpu < 8) × (unwrap_or thread 0 < 16) }
         ensures changes { Changes E.Exclusion.told E.Exclusion.answers (self.old.core, self.old.exclusion) cpu thread (accept_answer result) (self.new.core, self.new.exclusion) }
     {
-        if !disturb_current(&mut self.core, &self.exclusion, cpu) {
-            return Err(Fault::at(Refusal::Held, 0));
-        }
+        disturb_current(&mut self.core, &self.exclusion, cpu)?;
         self.exclusion.left(cpu);
         give_thread(&mut self.core, cpu, thread);
         Ok(())
@@ -198,9 +178,7 @@ impl<E: Exclusion> Machine<E> {
         requires { (t < 16) × ((thread_at self.old.core t).depth < 8) }
         ensures interrupts { Interrupts E.Exclusion.told E.Exclusion.answers (self.old.core, self.old.exclusion) cpu t operation (accept_answer result) (self.new.core, self.new.exclusion) }
     {
-        if !disturb(&mut self.core, &self.exclusion, cpu, t) {
-            return Err(Fault::at(Refusal::Held, 0));
-        }
+        disturb(&mut self.core, &self.exclusion, cpu, t)?;
         self.exclusion.left(cpu);
         add_frame(&mut self.core, t, operation);
         Ok(())
@@ -210,7 +188,7 @@ impl<E: Exclusion> Machine<E> {
     fn signal_one(&mut self, thread: u64, raw: RawOperation) -> Result<(), Fault>
         ensures does { Step E.Exclusion.told E.Exclusion.answers (self.old.core, self.old.exclusion) (Signal thread raw) (accept_answer result) (self.new.core, self.new.exclusion) }
     {
-        let operation = self.can_signal(thread, raw)?;
+        let operation = self.can_begin(thread, raw, 8, Refusal::StackFull)?;
         let t = thread as usize;
         let Some(cpu) = cpu_of(&self.core.cpus, t) else {
             add_frame(&mut self.core, t, operation);
@@ -225,15 +203,13 @@ impl<E: Exclusion> Machine<E> {
         ensures stopped { Stopped E.Exclusion.told E.Exclusion.answers instructions result.0 result.1 }
         ensures runs { Runs E.Exclusion.told E.Exclusion.answers cpu t result.0 result.1 (self.old.core, self.old.exclusion) (self.new.core, self.new.exclusion) }
     {
-        let mut count = 0;
-        while count < instructions {
+        for done in 0..instructions {
             let settling = self.perform_one(cpu, t);
-            count += 1;
-            if let Some(_) = settling {
-                return (count, settling);
+            if settling.is_some() {
+                return (done + 1, settling);
             }
         }
-        (count, None)
+        (instructions, None)
     }
 
     /// Performs instructions until so many are done or an operation has settled: how many, and the settling or none.

@@ -5,7 +5,7 @@ ghost use Rattle.machine.specs.Sound.{Sound};
 ghost use Rattle.std.specs.Option.{unwrap_or};
 ghost use Rattle.lives.specs.Apart.{given_thread, with_frame};
 
-use crate::perform::{put_frame, section_of};
+use crate::perform::section_of;
 use model::state::{Core, Frame, Operation};
 
 /// Puts a frame that begins an operation on a thread's stack.
@@ -14,18 +14,12 @@ pub fn add_frame(core: &mut Core, t: usize, operation: Operation)
     ensures sound { Sound core.old → Sound core.new }
     ensures defined { core.new ≡ with_frame t operation core.old }
 {
-    let section = section_of(&core.image, operation);
-    let thread = &mut core.threads[t];
-    put_frame(
-        &mut thread.frames,
-        thread.depth,
-        Frame {
-            operation,
-            place: section.start.saturating_sub(4),
-            armed: 0,
-        },
-    );
-    thread.depth += 1;
+    let place = section_of(&core.image, operation).start.saturating_sub(4);
+    core.threads[t].push(Frame {
+        operation,
+        place,
+        armed: 0,
+    });
 }
 
 /// Gives a CPU a thread, or none.

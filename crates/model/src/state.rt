@@ -1,6 +1,10 @@
 //! The state of a machine, in plain structs and fixed arrays.
+ghost use Rattle.std.specs.Prelude.{◌≡◌, nat_lt, if◌then◌else◌};
+ghost use Rattle.model.specs.State.{dropped, kind_of_operation, pushed, top_frame, with_top};
+
 use image::fields::Sizes;
 use image::layout::Section;
+use words::Kind;
 
 /// An operation that a thread does: what it is, with its operands.
 #[derive(Clone, Copy)]
@@ -17,6 +21,21 @@ pub enum Operation {
     Take,
 }
 
+impl Operation {
+    /// What the operation does; its number is that of its descriptor.
+    pub fn kind(self) -> Kind
+        ensures defined { result ≡ kind_of_operation self }
+    {
+        match self {
+            Operation::Add { .. } => Kind::Add,
+            Operation::Push => Kind::Push,
+            Operation::Pop => Kind::Pop,
+            Operation::Put { .. } => Kind::Put,
+            Operation::Take => Kind::Take,
+        }
+    }
+}
+
 /// A frame of a thread's stack: an operation, the place of its next instruction, and the number of the descriptor that is
 /// armed, 0 if none is. The routine's entry arms its descriptor, which marks the frame as being in that routine's section; it
 /// is disarmed when the thread is disturbed and not sent back to the section's start.
@@ -26,6 +45,16 @@ pub struct Frame {
     pub place: u64,
     pub armed: usize,
 }
+
+/// A frame that stands nowhere.
+pub const NO_FRAME: Frame = Frame {
+    operation: Operation::Add {
+        counter: 0,
+        amount: 0,
+    },
+    place: 0,
+    armed: 0,
+};
 
 /// A thread: its registers, its stack, of which the first `depth` frames count and the last of them is the top, and its
 /// hand, which holds one node or none. A node is a free buffer, known by its number from 1 on.
@@ -38,6 +67,45 @@ pub struct Thread {
     pub frames: [Frame; 8],
     pub depth: usize,
     pub hand: Option<u64>,
+}
+
+impl Thread {
+    /// The top frame of the stack; one that stands nowhere where the depth is past the end.
+    pub fn top(&self) -> Frame
+        ensures defined { result ≡ top_frame self.now }
+    {
+        self.frames
+            .get(self.depth.saturating_sub(1))
+            .copied()
+            .unwrap_or(NO_FRAME)
+    }
+
+    /// Puts another frame in the place of the top one.
+    pub fn set_top(&mut self, frame: Frame)
+        ensures defined { self.new ≡ with_top self.old frame }
+    {
+        let top = self.depth.saturating_sub(1);
+        if top < self.frames.len() {
+            self.frames[top] = frame;
+        }
+    }
+
+    /// Puts one more frame on the stack, if it has fewer than eight.
+    pub fn push(&mut self, frame: Frame)
+        ensures defined { self.new ≡ (if nat_lt self.old.depth 8 then pushed self.old frame else self.old) }
+    {
+        if self.depth < self.frames.len() {
+            self.frames[self.depth] = frame;
+            self.depth += 1;
+        }
+    }
+
+    /// Takes the top frame off the stack, if it has one.
+    pub fn drop_top(&mut self)
+        ensures defined { self.new ≡ dropped self.old }
+    {
+        self.depth = self.depth.saturating_sub(1);
+    }
 }
 
 /// A CPU: its current thread, its counters, the head of its list of nodes (0 for none), and its ring of packets by head, tail and

@@ -1,14 +1,15 @@
-use Rattle.std.proofs.Common.{sym, ◌∙◌, arith}
-use Rattle.machine.proofs.Walks.{cpu_here, cpu_further, cpu_nowhere}
+use Rattle.std.proofs.Common.{rules, ◌∙◌}
+use Rattle.std.proofs.Common.{tests}
+use Rattle.std.proofs.lemmas.Iterator.{YieldsList-from_slice}
+use Rattle.std.proofs.lemmas.Iterator.Search.{position_from_yields_List}
+use Rattle.std.proofs.lemmas.Iterator.Adapters.{position_from-zero}
+use Rattle.model.specs.declared.state.Cpu.{Cpu}
+use Rattle.model.specs.Claims.{is_thread}
+use Rattle.machine.proofs.Walks.{first_with}
 use Rattle.machine.proofs.asking.cpu_of.Goals as goal
 
-pub returns-then-is_thread : goal.returns-then-is_thread
-returns-then-is_thread c =
-    sym (cpu_here c.args.cpus.now c.loop-i.i c.args.t (omega arith) (sym c.is_thread.ensures ∙ c.if-is_thread.true)) ∙ c.loop-i.invariant
-
-pub loop-i-preserved : goal.loop-i-preserved
-loop-i-preserved c =
-    sym (cpu_further c.args.cpus.now c.loop-i.i c.args.t (omega arith) (sym c.is_thread.ensures ∙ c.if-is_thread.false)) ∙ c.loop-i.invariant
-
 pub returns : goal.returns
-returns c = sym (cpu_nowhere c.args.cpus.now c.loop-i.i c.args.t (omega arith)) ∙ c.loop-i.invariant
+returns c =
+    position_from_yields_List (λ (cpu : Cpu). is_thread c.args.t cpu.current) _ _ c.position.result c.position.ensures.ran (YieldsList-from_slice c.args.cpus.now cc) (λ x b q k. search (rules, tests))
+    ∙ position_from-zero (λ (cpu : Cpu). is_thread c.args.t cpu.current) c.args.cpus.now
+    ∙ first_with c.args.t 0 c.args.cpus.now
