@@ -67,22 +67,14 @@ copied sections text words e =
     ap (λ (ws : List ℕ). record { sections = sections; words = ws ++ drop (length text) (replicate 256 0); count = length text }) e
     ∙ ap (λ (ws : List ℕ). record { sections = sections; words = text ++ ws; count = length text }) (drop-replicate (length text) 256 0)
 
--- The sections one by one: the section of the kind at i, as an exclusion and as the table tells it.
-module _ (section : ℕ → Section) (table : List ℕ) (these : List Kind) (i : ℕ) (below : i < length these) (d : ℕ) (one other : Section) where
-  abbrev kind : Kind
-  kind = get_or these i Add
-
-  abbrev Compared : Bool → Type 0
-  Compared same = (d ≡ kind_number kind) → (one ≡ section d) → (other ≡ section_of table kind) → same_section one other ≡ same
-      → all_pass (section_checks section table (drop i these)) ≡ cond same (all_pass (section_checks section table (drop (i + 1) these))) (Err (fault_at OtherSections d))
-
-  pub compared : (same : Bool) → Compared same
-  compared same number there here e =
-      ap (λ ks. all_pass (section_checks section table ks)) (drop_more these i Add below)
-      ∙ ap (λ n. cond (same_section (section n) (section_of table kind)) (all_pass (section_checks section table (drop (i + 1) these))) (Err (fault_at OtherSections n))) (sym number)
-      ∙ ap (λ (s : Section). cond (same_section s (section_of table kind)) (all_pass (section_checks section table (drop (i + 1) these))) (Err (fault_at OtherSections d))) (sym there)
-      ∙ ap (λ (s : Section). cond (same_section one s) (all_pass (section_checks section table (drop (i + 1) these))) (Err (fault_at OtherSections d))) (sym here)
-      ∙ ap (λ b. cond b (all_pass (section_checks section table (drop (i + 1) these))) (Err (fault_at OtherSections d))) e
+-- The sections one by one: whether that of the kind at i is the exclusion's.
+pub compared : (section : ℕ → Section) (table : List ℕ) (these : List Kind) (i : ℕ) (same : Bool) → i < length these
+    → same ≡ same_section (section (kind_number (get_or these i Add))) (section_of table (get_or these i Add))
+    → all_pass (section_checks section table (drop i these))
+    ≡ cond same (all_pass (section_checks section table (drop (i + 1) these))) (Err (fault_at OtherSections (kind_number (get_or these i Add))))
+compared section table these i same below e =
+    ap (λ ks. all_pass (section_checks section table ks)) (drop_more these i Add below)
+    ∙ ap (λ b. cond b (all_pass (section_checks section table (drop (i + 1) these))) (Err (fault_at OtherSections (kind_number (get_or these i Add))))) (sym e)
 
 pub none_to_compare : (section : ℕ → Section) (table : List ℕ) (these : List Kind) (i : ℕ) → length these ≤ i → all_pass (section_checks section table (drop i these)) ≡ Ok tt
 none_to_compare section table these i past = ap (λ ks. all_pass (section_checks section table ks)) (drop_all i these past)

@@ -3,9 +3,10 @@ ghost use Rattle.std.specs.Prelude.{◌≡◌, ◌+◌, ◌-◌, ◌≤◌, ◌&
 ghost use Rattle.exclusion.specs.Meaning.{ToldAll};
 ghost use Rattle.image.specs.Checks.{all_pass};
 ghost use Rattle.machine.specs.Sound.{Sound};
-ghost use Rattle.model.specs.Calls.{all_left, booted_core, section_checks};
+ghost use Rattle.model.specs.Calls.{all_left, booted_core, same_section, section_checks};
 ghost use Rattle.model.specs.State.{new_core, new_cpu, new_thread, tabulated};
-ghost use Rattle.words.specs.Words.{kinds};
+ghost use Rattle.image.specs.Layout.{section_of};
+ghost use Rattle.words.specs.Words.{kind_number, kinds};
 
 use exclusion::meaning::Exclusion;
 use faults::{Fault, Refusal};
@@ -103,14 +104,20 @@ fn image_of(sections: [Section; 5], text: &[u32]) -> Image
     }
 }
 
+/// Whether an exclusion's section of an operation is the table's.
+fn has_section<E: Exclusion>(exclusion: &E, table: &[u8], kind: Kind) -> bool
+    ensures { result ≡ same_section ((E.Exclusion.meaning exclusion.now).section (kind_number kind)) (section_of table.now kind) }
+{
+    exclusion.section(kind.number()) == Section::of(table, kind)
+}
+
 /// Compares an exclusion's sections of operations with the table's, in their order: the first that differs is the fault.
 fn compare_kinds<E: Exclusion>(exclusion: &E, table: &[u8], these: &[Kind]) -> Result<(), Fault>
     ensures { result ≡ all_pass (section_checks (E.Exclusion.meaning exclusion.now).section table.now these.now) }
 {
     for kind in these {
-        let d = kind.number();
-        if exclusion.section(d) != Section::of(table, *kind) {
-            return Err(Fault::at(Refusal::OtherSections, d));
+        if !has_section(exclusion, table, *kind) {
+            return Err(Fault::at(Refusal::OtherSections, kind.number()));
         }
     }
     Ok(())
