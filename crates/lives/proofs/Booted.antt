@@ -8,7 +8,7 @@ use Rattle.words.specs.declared.Kind.{Kind}
 use Rattle.words.specs.declared.Kind.TheVariants as kind
 use Rattle.words.specs.declared.Word.{Word}
 use Rattle.words.specs.declared.Word.TheVariants.{Enter, ReadCpu, LoadCounter, AddAmount, StoreCounter, NeedNode, NeedEmptyHand, LoadListHead, LinkNode, PushNode, NeedListed, LoadNext, PopNode, LoadTail, LoadRingHead, NeedRoom, StorePacket, AdvanceTail, NeedPacket, LoadPacket, AdvanceRingHead, Restart}
-use Rattle.words.specs.Words.{code, kinds, kind_number}
+use Rattle.words.specs.Words.{code, kinds, kind_number, word_of}
 use Rattle.image.specs.declared.fields.Sizes.{Sizes}
 use Rattle.image.specs.declared.layout.Section.{Section}
 use Rattle.image.specs.Layout.{LiesAt, word_at, Inside, section_of, sections_of}
@@ -28,7 +28,7 @@ use Rattle.model.specs.declared.state.Cpu.{Cpu}
 use Rattle.model.specs.declared.state.Image.{Image}
 use Rattle.model.specs.declared.state.Core.{Core}
 use Rattle.model.specs.State.{no_cpu, no_thread, new_cpu, new_thread, new_core, thread_at, cpu_at, kind_of_operation}
-use Rattle.model.specs.Words.{word_of, decoded}
+use Rattle.model.specs.Words.{decoded}
 use Rattle.model.specs.Calls.{same_section, section_checks, image_of, Boots}
 use Rattle.model.specs.Ledger.{new_ledger}
 use Rattle.model.specs.Claims.{StructuresAgree, among, HasMeaning}

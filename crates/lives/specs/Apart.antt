@@ -38,7 +38,7 @@ begun image operation = record { operation = operation; place = entry_of image o
 
 -- The word at an address of an image's text.
 abbrev pub word_here : Image → ℕ → Option Word
-word_here image place = decoded (word_at (take image.count image.words) place)
+word_here image place = decoded (word_at (take image.text.count image.text.words) place)
 
 -- What a word does for an operation of the thread on the CPU with the number `here`, with rings of so many packets. `cpu` are the structures of CPU q,
 -- `next` the nodes' next words. A word whose operand the operation lacks, or that wants a node from an empty hand, only goes on;

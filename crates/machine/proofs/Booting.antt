@@ -61,11 +61,11 @@ of_new_parts sizes image first one other thread next f p q t n =
 
 -- A text that is copied over the front of zeros.
 pub copied : (sections : List Section) (text words : List ℕ) → words ≡ text
-    → ◌≡◌ {A = Image} (record { sections = sections; words = words ++ drop (length text) (replicate 256 0); count = length text })
-    (record { sections = sections; words = text ++ replicate (256 - length text) 0; count = length text })
+    → ◌≡◌ {A = Image} (record { sections = sections; text = record { words = words ++ drop (length text) (replicate 256 0); count = length text } })
+    (record { sections = sections; text = record { words = text ++ replicate (256 - length text) 0; count = length text } })
 copied sections text words e =
-    ap (λ (ws : List ℕ). record { sections = sections; words = ws ++ drop (length text) (replicate 256 0); count = length text }) e
-    ∙ ap (λ (ws : List ℕ). record { sections = sections; words = text ++ ws; count = length text }) (drop-replicate (length text) 256 0)
+    ap (λ (ws : List ℕ). record { sections = sections; text = record { words = ws ++ drop (length text) (replicate 256 0); count = length text } }) e
+    ∙ ap (λ (ws : List ℕ). record { sections = sections; text = record { words = text ++ ws; count = length text } }) (drop-replicate (length text) 256 0)
 
 -- The sections one by one: whether that of the kind at i is the exclusion's.
 pub compared : (section : ℕ → Section) (table : List ℕ) (these : List Kind) (i : ℕ) (same : Bool) → i < length these
@@ -109,7 +109,7 @@ each P x d (suc k) zero p q = p
 each P x d (suc k) (suc i) p q = each P x d k i p q
 
 -- A new machine within the limits is sound.
-new_sound : (sizes : Sizes) (image : Image) → sizes.cpus ≤ 8 → sizes.threads ≤ 16 → image.count ≤ 256 → Sound (new_core sizes image)
+new_sound : (sizes : Sizes) (image : Image) → sizes.cpus ≤ 8 → sizes.threads ≤ 16 → image.text.count ≤ 256 → Sound (new_core sizes image)
 new_sound sizes image cpus threads count = (cpus, threads, count, idle, λ t. each (λ (x : Thread). x.q < 8) new_thread no_thread 16 t (omega arith) (omega arith))
   where
     idle : (c : ℕ) → unwrap_or (cpu_at (new_core sizes image) c).current 0 < 16
@@ -125,10 +125,10 @@ module _ (sizes : Sizes) (table text : List ℕ) (signature : ℕ) where
   first = image_checks sizes table text signature
 
   module _ (sections : List Section) (image : Image) (core : Core) (checked : Ok sections ≡ checked_image sizes table text signature)
-      (is : image ≡ record { sections = sections; words = text ++ replicate (256 - length text) 0; count = length text }) (made : core ≡ new_core sizes image) where
+      (is : image ≡ record { sections = sections; text = record { words = text ++ replicate (256 - length text) 0; count = length text } }) (made : core ≡ new_core sizes image) where
     is_new : core ≡ new
     is_new =
-        made ∙ ap (new_core sizes) (is ∙ ap (λ (ss : List Section). record { sections = ss; words = text ++ replicate (256 - length text) 0; count = length text })
+        made ∙ ap (new_core sizes) (is ∙ ap (λ (ss : List Section). record { sections = ss; text = record { words = text ++ replicate (256 - length text) 0; count = length text } })
         (passed (sections_of table) sections first (sym checked)))
 
     pub booted : (section : ℕ → Section) → Ok tt ≡ all_pass (section_checks section table kinds) → Ok core ≡ booted_core sizes table text signature section

@@ -6,4 +6,4 @@ use Rattle.model.specs.State.{thread_at, cpu_at}
 
 abbrev pub Sound : Core → Type 0
 Sound core =
-    (core.sizes.cpus ≤ 8) × (core.sizes.threads ≤ 16) × (core.image.count ≤ 256) × ((c : ℕ) → unwrap_or (cpu_at core c).current 0 < 16) × ((t : ℕ) → (thread_at core t).q < 8)
+    (core.sizes.cpus ≤ 8) × (core.sizes.threads ≤ 16) × (core.image.text.count ≤ 256) × ((c : ℕ) → unwrap_or (cpu_at core c).current 0 < 16) × ((t : ℕ) → (thread_at core t).q < 8)

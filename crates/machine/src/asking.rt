@@ -18,7 +18,7 @@ pub fn operation_of(sizes: Sizes, raw: RawOperation) -> Option<Operation>
     ensures { result ≡ operation_of sizes raw }
 {
     let bare = raw.counter == 0 && raw.amount == 0;
-    match Kind::from_number(raw.kind)? {
+    match Kind::try_from(raw.kind).ok()? {
         Kind::Add if raw.counter < sizes.counters => Some(Operation::Add {
             counter: raw.counter,
             amount: raw.amount,

@@ -10,9 +10,10 @@ ghost use Rattle.words.specs.Words.{kind_number, kinds};
 
 use exclusion::meaning::Exclusion;
 use faults::{Fault, Refusal};
-use image::checks::check_image;
+use image::checks::JobImage;
 use image::fields::Sizes;
 use image::layout::Section;
+use image::text::Text;
 use model::state::{Core, Cpu, Image, NO_FRAME, Thread};
 use std::array;
 use words::Kind;
@@ -93,14 +94,14 @@ fn new_core(sizes: Sizes, image: Image) -> Core
 /// The image of accepted sections and a text; the places behind the text's words are 0.
 fn image_of(sections: [Section; 5], text: &[u32]) -> Image
     requires { length text.now ≤ 256 }
-    ensures { result ≡ record { sections = sections; words = text.now ++ replicate (256 - length text.now) 0; count = length text.now } }
+    ensures { result ≡ record { sections = sections; text = record { words = text.now ++ replicate (256 - length text.now) 0; count = length text.now } } }
 {
     let mut words = [0; 256];
     words[..text.len()].copy_from_slice(text);
+    let count = text.len();
     Image {
         sections,
-        words,
-        count: text.len(),
+        text: Text { words, count },
     }
 }
 
@@ -141,19 +142,13 @@ fn leave_all<E: Exclusion>(exclusion: &mut E)
 
 /// Boots a machine: its image is checked, then the exclusion's sections are compared with the table's. A machine that is
 /// booted is new, and the exclusion was told left for every CPU; where it is refused, the exclusion is told nothing.
-pub fn boot_parts<E: Exclusion>(
-    sizes: Sizes,
-    signature: u32,
-    table: &[u8],
-    text: &[u32],
-    exclusion: &mut E,
-) -> Result<Core, Fault>
-    ensures booted { result ≡ booted_core sizes table.now text.now signature (E.Exclusion.meaning exclusion.old).section }
+pub fn boot_parts<E: Exclusion>(image: &JobImage, exclusion: &mut E) -> Result<Core, Fault>
+    ensures booted { result ≡ booted_core image.now.sizes image.now.table.now image.now.text.now image.now.signature (E.Exclusion.meaning exclusion.old).section }
     ensures told_only_if_booted { MatchResult result (λ _. ToldAll E.Exclusion.told exclusion.old all_left exclusion.new) (λ _. exclusion.new ≡ exclusion.old) }
     ensures sound_if_booted { IfOk result (λ core. Sound core) }
 {
-    let sections = check_image(&sizes, table, text, signature)?;
-    compare_sections(exclusion, table)?;
+    let sections = image.check()?;
+    compare_sections(exclusion, image.table)?;
     leave_all(exclusion);
-    Ok(new_core(sizes, image_of(sections, text)))
+    Ok(new_core(image.sizes, image_of(sections, image.text)))
 }

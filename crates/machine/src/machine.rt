@@ -17,7 +17,7 @@ use crate::perform::step;
 use calls::RawOperation;
 use exclusion::meaning::{Exclusion, Notice};
 use faults::{Fault, Refusal};
-use image::fields::Sizes;
+use image::checks::JobImage;
 use model::state::{Core, Operation, Settling};
 
 /// A machine over an exclusion, which it tells and asks as its rules say. It keeps itself sound: what it uses as an index is
@@ -43,18 +43,12 @@ fn tell<E: Exclusion>(exclusion: &mut E, notice: Option<Notice>)
 
 impl<E: Exclusion + Drop> Machine<E> {
     /// Boots a machine over an exclusion: a new machine, or the fault of the first check that fails.
-    pub fn boot(
-        sizes: Sizes,
-        signature: u32,
-        table: &[u8],
-        text: &[u32],
-        exclusion: E,
-    ) -> Result<Machine<E>, Fault>
-        ensures does { MatchResult result (λ m. Boots E.Exclusion.told E.Exclusion.answers E.Exclusion.meaning sizes signature table.now text.now exclusion (Ok (m.core, m.exclusion))) (λ fault. Boots E.Exclusion.told E.Exclusion.answers E.Exclusion.meaning sizes signature table.now text.now exclusion (Err fault)) }
-        ensures faithful { IfOk result (λ m. BeginsFaithful E.Exclusion.meaning E.Exclusion.told E.Exclusion.answers sizes (m.core, m.exclusion)) }
+    pub fn boot(image: &JobImage, exclusion: E) -> Result<Machine<E>, Fault>
+        ensures does { MatchResult result (λ m. Boots E.Exclusion.told E.Exclusion.answers E.Exclusion.meaning image.now.sizes image.now.signature image.now.table.now image.now.text.now exclusion (Ok (m.core, m.exclusion))) (λ fault. Boots E.Exclusion.told E.Exclusion.answers E.Exclusion.meaning image.now.sizes image.now.signature image.now.table.now image.now.text.now exclusion (Err fault)) }
+        ensures faithful { IfOk result (λ m. BeginsFaithful E.Exclusion.meaning E.Exclusion.told E.Exclusion.answers image.now.sizes (m.core, m.exclusion)) }
     {
         let mut exclusion = exclusion;
-        let core = boot_parts(sizes, signature, table, text, &mut exclusion)?;
+        let core = boot_parts(image, &mut exclusion)?;
         Ok(Machine { core, exclusion })
     }
 }

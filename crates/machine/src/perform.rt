@@ -1,7 +1,7 @@
 //! One instruction.
 ghost use Rattle.std.specs.Prelude.{◌≡◌, ℕ, ◌+◌, ◌%◌, ◌<◌, ◌≤◌, slice_index, slice_set};
 ghost use Rattle.model.specs.State.{thread_at, top_frame};
-ghost use Rattle.model.specs.Words.{notice_here, performed, word_of};
+ghost use Rattle.model.specs.Words.{notice_here, performed};
 ghost use Rattle.image.specs.Layout.{word_at};
 ghost use Rattle.lives.specs.Apart.{section_of_operation, does_here, word_here};
 
@@ -34,44 +34,12 @@ pub fn behind(slot: u64, packets: u64) -> u64
     ((slot as u128 + 1) % (packets as u128 + 1)) as u64
 }
 
-/// The word that a number stands for.
-fn decode(number: u32) -> Option<Word>
-    ensures { result ≡ word_of number }
-{
-    match number {
-        1 => Some(Word::Enter),
-        2 => Some(Word::ReadCpu),
-        3 => Some(Word::LoadCounter),
-        4 => Some(Word::AddAmount),
-        5 => Some(Word::StoreCounter),
-        6 => Some(Word::NeedNode),
-        7 => Some(Word::NeedEmptyHand),
-        8 => Some(Word::LoadListHead),
-        9 => Some(Word::LinkNode),
-        10 => Some(Word::PushNode),
-        11 => Some(Word::NeedListed),
-        12 => Some(Word::LoadNext),
-        13 => Some(Word::PopNode),
-        14 => Some(Word::LoadTail),
-        15 => Some(Word::LoadRingHead),
-        16 => Some(Word::NeedRoom),
-        17 => Some(Word::StorePacket),
-        18 => Some(Word::AdvanceTail),
-        19 => Some(Word::NeedPacket),
-        20 => Some(Word::LoadPacket),
-        21 => Some(Word::AdvanceRingHead),
-        22 => Some(Word::Restart),
-        _ => None,
-    }
-}
-
 /// The word at a place of an image's text.
 fn word_here(image: &Image, place: u64) -> Option<Word>
-    requires { image.now.count ≤ 256 }
     ensures { result ≡ word_here image.now place }
 {
-    let number = word_at(&image.words[..image.count], place)?;
-    decode(number)
+    let number = word_at(image.text.words(), place)?;
+    Word::try_from(number).ok()
 }
 
 /// The section of an operation's routine.
@@ -91,7 +59,6 @@ pub fn perform(
     image: &Image,
     packets: u64,
 ) -> Option<Answer>
-    requires { image.now.count ≤ 256 }
     ensures { record { thread = thread.new; cpu = cpu.new; next = next.new; answer = result } ≡ does_here packets image.now here thread.old cpu.old next.old (top_frame thread.old).operation (word_here image.now (top_frame thread.old).place) }
 {
     let frame = thread.top();
@@ -218,7 +185,7 @@ fn notice_of(cpu: usize, d: usize, answer: Option<Answer>, word: Option<Word>) -
 
 /// One instruction of a thread on a CPU.
 pub fn step(core: &mut Core, cpu: usize, t: usize) -> Ran
-    requires { (t < 16) × (((thread_at core.old t).q < 8) × (core.old.image.count ≤ 256)) }
+    requires { (t < 16) × ((thread_at core.old t).q < 8) }
     ensures { record { core = core.new; notice = result.notice; settling = result.settling } ≡ performed core.old cpu t }
 {
     let thread = core.threads[t];

@@ -49,7 +49,7 @@ section_checks section table (kind ∷ rest) =
     record { passes = same_section (section (kind_number kind)) (section_of table kind); fault = fault_at OtherSections (kind_number kind) } ∷ section_checks section table rest
 
 abbrev pub image_of : List ℕ → List ℕ → Image
-image_of table text = record { sections = sections_of table; words = text ++ replicate (256 - length text) 0; count = length text }
+image_of table text = record { sections = sections_of table; text = record { words = text ++ replicate (256 - length text) 0; count = length text } }
 
 abbrev pub booted_core : Sizes → List ℕ → List ℕ → ℕ → (ℕ → Section) → Result Core Fault
 booted_core sizes table text signature section =

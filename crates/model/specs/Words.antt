@@ -2,6 +2,7 @@
 use Rattle.std.specs.Prelude.{ℕ, ◌+◌, ◌%◌, ◌^◌, cond, List, take, Some, None, Option, ◌==◌, slice_index, slice_set}
 use Rattle.image.specs.Layout.{word_at}
 use Rattle.words.specs.declared.Word.{Word}
+use Rattle.words.specs.Words.{word_of}
 use Rattle.words.specs.declared.Word.TheVariants.{Enter, ReadCpu, LoadCounter, AddAmount, StoreCounter, NeedNode, NeedEmptyHand, LoadListHead, LinkNode, PushNode, NeedListed, LoadNext, PopNode, LoadTail, LoadRingHead, NeedRoom, StorePacket, AdvanceTail, NeedPacket, LoadPacket, AdvanceRingHead, Restart}
 use Rattle.exclusion.specs.declared.meaning.Notice.{Notice}
 use Rattle.exclusion.specs.declared.meaning.Notice.TheVariants.{Entered, Stepped, Left}
@@ -16,21 +17,13 @@ use Rattle.model.specs.declared.state.Settling.{Settling}
 use Rattle.model.specs.State.{thread_q, thread_a, thread_b, thread_w, thread_hand, cpu_counters, cpu_list, cpu_head, cpu_tail, cpu_slots, core_next, thread_at, cpu_at, put_thread, put_cpu, top_frame, with_top, dropped, descriptor_of_operation, section_of_operation, entry_of}
 
 -- The word that a number of the text stands for.
-abbrev pub word_of : ℕ → Option Word
-word_of n =
-    cond (n == 1) (Some Enter) (cond (n == 2) (Some ReadCpu) (cond (n == 3) (Some LoadCounter) (cond (n == 4) (Some AddAmount) (cond (n == 5) (Some StoreCounter)
-    (cond (n == 6) (Some NeedNode) (cond (n == 7) (Some NeedEmptyHand) (cond (n == 8) (Some LoadListHead) (cond (n == 9) (Some LinkNode) (cond (n == 10) (Some PushNode)
-    (cond (n == 11) (Some NeedListed) (cond (n == 12) (Some LoadNext) (cond (n == 13) (Some PopNode) (cond (n == 14) (Some LoadTail) (cond (n == 15) (Some LoadRingHead)
-    (cond (n == 16) (Some NeedRoom) (cond (n == 17) (Some StorePacket) (cond (n == 18) (Some AdvanceTail) (cond (n == 19) (Some NeedPacket) (cond (n == 20) (Some LoadPacket)
-    (cond (n == 21) (Some AdvanceRingHead) (cond (n == 22) (Some Restart) None)))))))))))))))))))))
-
 abbrev pub decoded : Option ℕ → Option Word
 decoded None = None
 decoded (Some n) = word_of n
 
 -- The word at an address of a machine's text.
 abbrev pub word_here : Core → ℕ → Option Word
-word_here core place = decoded (word_at (take core.image.count core.image.words) place)
+word_here core place = decoded (word_at (take core.image.text.count core.image.text.words) place)
 
 -- What an instruction leaves: the thread, the structures of CPU q, the nodes' next words, and an answer if it settled.
 pub record Effect : Type 0 where

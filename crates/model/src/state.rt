@@ -4,6 +4,7 @@ ghost use Rattle.model.specs.State.{dropped, kind_of_operation, pushed, top_fram
 
 use image::fields::Sizes;
 use image::layout::Section;
+use image::text::Text;
 use words::Kind;
 
 /// An operation that a thread does: what it is, with its operands.
@@ -120,12 +121,11 @@ pub struct Cpu {
     pub slots: [u64; 16],
 }
 
-/// An accepted image: the five sections, and the text's words, `count` of them.
+/// An accepted image: the five sections, and the text.
 #[derive(Clone, Copy)]
 pub struct Image {
     pub sections: [Section; 5],
-    pub words: [u32; 256],
-    pub count: usize,
+    pub text: Text,
 }
 
 /// A machine without its exclusion. Node n's next word stands at n.

@@ -7,6 +7,6 @@ returns g c =
     record {
       does = (parts.booted, parts.told_only_if_booted);
       faithful =
-          begins g.E.Exclusion.meaning g.E.Exclusion.told g.E.Exclusion.answers (record { shaped = g.met.E.Exclusion.shaped; obeys = g.met.E.Exclusion.obeys; says = g.met.E.Exclusion.says }) c.args.sizes
-          c.args.signature c.args.table.now c.args.text.now c.args.exclusion _ (parts.booted, parts.told_only_if_booted);
+          begins g.E.Exclusion.meaning g.E.Exclusion.told g.E.Exclusion.answers (record { shaped = g.met.E.Exclusion.shaped; obeys = g.met.E.Exclusion.obeys; says = g.met.E.Exclusion.says }) c.args.image.now.sizes
+          c.args.image.now.signature c.args.image.now.table.now c.args.image.now.text.now c.args.exclusion _ (parts.booted, parts.told_only_if_booted);
     }
