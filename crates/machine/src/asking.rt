@@ -6,10 +6,12 @@ ghost use Rattle.lives.specs.Apart.{cpu_among};
 ghost use Rattle.machine.specs.Promises.{IndexBelow, Walks};
 
 use crate::perform::{behind, read};
+use crate::works::Works;
 use calls::RawOperation;
+use exclusion::meaning::Exclusion;
 use faults::{Fault, Refusal};
 use image::fields::Sizes;
-use model::state::{Core, Cpu, Operation};
+use model::state::{Cpu, Operation};
 use words::Kind;
 
 /// The operation that three numbers ask for, if there is one: what it does not take must be 0, and a counter must be one that
@@ -70,57 +72,55 @@ fn reached<Ends: Fn(u64) -> bool, Onward: Fn(u64) -> u64>(
     if ends(place) { None } else { Some(place) }
 }
 
-/// What a counter of a CPU stands at.
-pub fn counter(core: &Core, cpu: u64, counter: u64) -> Result<u64, Fault>
-    requires { core.now.sizes.cpus ≤ 8 }
-    ensures { result ≡ counter_told core.now cpu counter }
-{
-    let cpu = index_below(cpu, core.sizes.cpus, Refusal::NoCpu)?;
-    index_below(counter, core.sizes.counters, Refusal::NoOperation)?;
-    Ok(read(&core.cpus[cpu].counters, counter))
-}
-
-/// The node in a thread's hand, if there is one.
-pub fn hand(core: &Core, thread: u64) -> Result<Option<u64>, Fault>
-    requires { core.now.sizes.threads ≤ 16 }
-    ensures { result ≡ hand_told core.now thread }
-{
-    let thread = index_below(thread, core.sizes.threads, Refusal::NoThread)?;
-    // stays: a rule of the project is that a hand is taken apart wherever its node is used or told
-    match core.threads[thread].hand {
-        Some(node) => Ok(Some(node)),
-        None => Ok(None),
+impl<E: Exclusion> Works<E> {
+    /// What a counter of a CPU stands at.
+    pub fn counter(&self, cpu: u64, counter: u64) -> Result<u64, Fault>
+        ensures { result ≡ counter_told self.now.core cpu counter }
+    {
+        let cpu = index_below(cpu, self.core.sizes.cpus, Refusal::NoCpu)?;
+        index_below(counter, self.core.sizes.counters, Refusal::NoOperation)?;
+        Ok(read(&self.core.cpus[cpu].counters, counter))
     }
-}
 
-/// The node at a position of a CPU's list, or none where the list ends before it.
-pub fn list_item(core: &Core, cpu: u64, position: u64) -> Result<Option<u64>, Fault>
-    requires { core.now.sizes.cpus ≤ 8 }
-    ensures { result ≡ list_item_told core.now cpu position }
-{
-    let cpu = index_below(cpu, core.sizes.cpus, Refusal::NoCpu)?;
-    let head = core.cpus[cpu].list;
-    Ok(reached(
-        |node| node == 0,
-        |node| read(&core.next, node),
-        head,
-        position,
-    ))
-}
+    /// The node in a thread's hand, if there is one.
+    pub fn hand(&self, thread: u64) -> Result<Option<u64>, Fault>
+        ensures { result ≡ hand_told self.now.core thread }
+    {
+        let thread = index_below(thread, self.core.sizes.threads, Refusal::NoThread)?;
+        // stays: a rule of the project is that a hand is taken apart wherever its node is used or told
+        match self.core.threads[thread].hand {
+            Some(node) => Ok(Some(node)),
+            None => Ok(None),
+        }
+    }
 
-/// The packet at a position of a CPU's ring, or none where the ring ends before it.
-pub fn ring_item(core: &Core, cpu: u64, position: u64) -> Result<Option<u64>, Fault>
-    requires { core.now.sizes.cpus ≤ 8 }
-    ensures { result ≡ ring_item_told core.now cpu position }
-{
-    let cpu = index_below(cpu, core.sizes.cpus, Refusal::NoCpu)?;
-    let ring = core.cpus[cpu];
-    let packets = core.sizes.packets;
-    let slot = reached(
-        |slot| slot == ring.tail,
-        |slot| behind(slot, packets),
-        ring.head,
-        position,
-    );
-    Ok(slot.map(|slot| read(&ring.slots, slot)))
+    /// The node at a position of a CPU's list, or none where the list ends before it.
+    pub fn list_item(&self, cpu: u64, position: u64) -> Result<Option<u64>, Fault>
+        ensures { result ≡ list_item_told self.now.core cpu position }
+    {
+        let cpu = index_below(cpu, self.core.sizes.cpus, Refusal::NoCpu)?;
+        let head = self.core.cpus[cpu].list;
+        Ok(reached(
+            |node| node == 0,
+            |node| read(&self.core.next, node),
+            head,
+            position,
+        ))
+    }
+
+    /// The packet at a position of a CPU's ring, or none where the ring ends before it.
+    pub fn ring_item(&self, cpu: u64, position: u64) -> Result<Option<u64>, Fault>
+        ensures { result ≡ ring_item_told self.now.core cpu position }
+    {
+        let cpu = index_below(cpu, self.core.sizes.cpus, Refusal::NoCpu)?;
+        let ring = self.core.cpus[cpu];
+        let packets = self.core.sizes.packets;
+        let slot = reached(
+            |slot| slot == ring.tail,
+            |slot| behind(slot, packets),
+            ring.head,
+            position,
+        );
+        Ok(slot.map(|slot| read(&ring.slots, slot)))
+    }
 }

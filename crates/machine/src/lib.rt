@@ -5,5 +5,5 @@ mod asking;
 mod boot;
 mod disturb;
 pub mod machine;
-mod parts;
 mod perform;
+mod works;

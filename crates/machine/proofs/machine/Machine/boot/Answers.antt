@@ -3,10 +3,8 @@ use Rattle.machine.proofs.machine.Machine.boot.Goals as goal
 
 pub returns : goal.returns
 returns g c =
-    let parts = c.in_ok-core.ensures in
+    let does = c.in_ok-works.ensures.does in
     record {
-      does = (parts.booted, parts.told_only_if_booted);
-      faithful =
-          begins g.E.Exclusion.meaning g.E.Exclusion.told g.E.Exclusion.answers (record { shaped = g.met.E.Exclusion.shaped; obeys = g.met.E.Exclusion.obeys; says = g.met.E.Exclusion.says }) c.args.image.now.sizes
-          c.args.image.now.signature c.args.image.now.table.now c.args.image.now.text.now c.args.exclusion _ (parts.booted, parts.told_only_if_booted);
+      does = does;
+      faithful = begins g.E.Exclusion.meaning g.E.Exclusion.told g.E.Exclusion.answers (record { shaped = g.met.E.Exclusion.shaped; obeys = g.met.E.Exclusion.obeys; says = g.met.E.Exclusion.says }) c.args.image.now.sizes c.args.image.now.signature c.args.image.now.table.now c.args.image.now.text.now c.args.exclusion _ does;
     }

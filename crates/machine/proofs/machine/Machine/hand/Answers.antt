@@ -3,8 +3,5 @@ use Rattle.machine.proofs.machine.Machine.hand.Goals as goal
 
 pub returns : goal.returns
 returns g c =
-    let defined = c.hand.ensures in
-    record {
-      defined = defined;
-      as_the_ledger_holds = hand_told_so g.E.Exclusion.meaning g.E.Exclusion.told g.E.Exclusion.answers (record { shaped = g.met.E.Exclusion.shaped; obeys = g.met.E.Exclusion.obeys; says = g.met.E.Exclusion.says }) (c.args.self.now.core, c.args.self.now.exclusion) c.args.thread _ defined;
-    }
+    let holds = hand_told_so g.E.Exclusion.meaning g.E.Exclusion.told g.E.Exclusion.answers (record { shaped = g.met.E.Exclusion.shaped; obeys = g.met.E.Exclusion.obeys; says = g.met.E.Exclusion.says }) _ _ c.self.view_is c.args.thread _ c.hand.ensures in
+    record { defined = holds.0; as_the_ledger_holds = holds.1 }

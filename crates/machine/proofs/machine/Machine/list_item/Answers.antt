@@ -3,8 +3,5 @@ use Rattle.machine.proofs.machine.Machine.list_item.Goals as goal
 
 pub returns : goal.returns
 returns g c =
-    let defined = c.list_item.ensures in
-    record {
-      defined = defined;
-      as_the_ledger_holds = list_item_told_so g.E.Exclusion.meaning g.E.Exclusion.told g.E.Exclusion.answers (record { shaped = g.met.E.Exclusion.shaped; obeys = g.met.E.Exclusion.obeys; says = g.met.E.Exclusion.says }) (c.args.self.now.core, c.args.self.now.exclusion) c.args.cpu c.args.position _ defined;
-    }
+    let holds = list_item_told_so g.E.Exclusion.meaning g.E.Exclusion.told g.E.Exclusion.answers (record { shaped = g.met.E.Exclusion.shaped; obeys = g.met.E.Exclusion.obeys; says = g.met.E.Exclusion.says }) _ _ c.self.view_is c.args.cpu c.args.position _ c.list_item.ensures in
+    record { defined = holds.0; as_the_ledger_holds = holds.1 }

@@ -2,7 +2,7 @@ use Rattle.std.proofs.Common.{◌+◌, None, Option, sym, subst, refl, ◌∙◌
 use Rattle.model.specs.declared.state.Settling.{Settling}
 use Rattle.model.specs.Calls.{Runs, none}
 use Rattle.machine.proofs.Steps.{one_more, stopped_short, settled_none, all_run}
-use Rattle.machine.proofs.machine.Machine.perform_many.Goals as goal
+use Rattle.machine.proofs.works.Works.perform_many.Goals as goal
 
 pub loop-done-init : goal.loop-done-init
 loop-done-init g c = none

@@ -1,6 +1,6 @@
 use Rattle.std.proofs.Common.{None}
 use Rattle.model.specs.Calls.{Runs}
-use Rattle.machine.proofs.machine.Machine.perform_many.Given as goal
+use Rattle.machine.proofs.works.Works.perform_many.Given as goal
 
 -- So many instructions have run, none of which settled.
 abbrev pub invariant-loop-done : goal.invariant-loop-done
