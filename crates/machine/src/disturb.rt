@@ -2,31 +2,15 @@
 ghost use Rattle.std.specs.Prelude.{◌≡◌, ℕ, ◌<◌, IfErr};
 ghost use Rattle.faults.specs.Numbering.{fault_at};
 ghost use Rattle.faults.specs.declared.Refusal.TheVariants.{Held};
-ghost use Rattle.exclusion.specs.Parts.{section_at};
 ghost use Rattle.machine.specs.Promises.{outcome};
 ghost use Rattle.model.specs.Calls.{Disturbs, DisturbsCurrent};
 ghost use Rattle.model.specs.State.{cpu_at, thread_at};
 
 use crate::works::Works;
-use exclusion::meaning::{Exclusion, Verdict};
+use exclusion::meaning::{Exclusion, Standing, Verdict};
+use exclusion::sections::section_at;
 use faults::{Fault, Refusal};
-use image::layout::Section;
 use model::state::Frame;
-
-/// Section d of five, numbered from 1, and zeros for any other number.
-pub fn section_at(sections: &[Section; 5], d: usize) -> Section
-    ensures { result ≡ section_at sections.now d }
-{
-    if 1 <= d && d <= 5 {
-        sections[d - 1]
-    } else {
-        Section {
-            start: 0,
-            length: 0,
-            abort: 0,
-        }
-    }
-}
 
 impl<E: Exclusion> Works<E> {
     /// Asks the exclusion what becomes of a thread on a CPU, and does it. Where the call is held, nothing has changed.
@@ -43,7 +27,12 @@ impl<E: Exclusion> Works<E> {
         }
         let frame = thread.top();
         let armed_section = section_at(&self.core.image.sections, frame.armed);
-        let frame = match self.exclusion.disturbed(cpu, frame.armed, frame.place) {
+        let standing = Standing {
+            cpu,
+            armed: frame.armed,
+            place: frame.place,
+        };
+        let frame = match self.exclusion.disturbed(standing) {
             Verdict::Outside => Frame { armed: 0, ..frame },
             Verdict::Held => return Err(Fault::at(Refusal::Held, 0)),
             Verdict::Back(place) => {

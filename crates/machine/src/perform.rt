@@ -5,8 +5,8 @@ ghost use Rattle.model.specs.Words.{notice_here, performed};
 ghost use Rattle.image.specs.Layout.{word_at};
 ghost use Rattle.lives.specs.Apart.{section_of_operation, does_here, word_here};
 
-use crate::disturb::section_at;
 use exclusion::meaning::Notice;
+use exclusion::sections::section_at;
 use image::layout::{Section, word_at};
 use model::state::{Answer, Core, Cpu, Frame, Image, Operation, Settling, Thread};
 use words::Word;

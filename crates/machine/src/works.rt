@@ -12,7 +12,7 @@ use crate::asking::{cpu_of, index_below, operation_of};
 use crate::boot::boot_parts;
 use crate::perform::{section_of, step};
 use calls::RawOperation;
-use exclusion::meaning::{Exclusion, Notice};
+use exclusion::meaning::{Exclusion, Notice, tell};
 use faults::{Fault, Refusal};
 use image::checks::JobImage;
 use model::state::{Core, Frame, Operation, Settling};
@@ -27,14 +27,11 @@ pub struct Works<E: Exclusion> {
 }
 
 /// Tells an exclusion what an instruction did, if there is something to tell.
-fn tell<E: Exclusion>(exclusion: &mut E, notice: Option<Notice>)
+fn tell_if<E: Exclusion>(exclusion: &mut E, notice: Option<Notice>)
     ensures told_so { ToldIf E.Exclusion.told E.Exclusion.answers exclusion.old notice exclusion.new }
 {
-    match notice {
-        None => {}
-        Some(Notice::Entered { cpu, d }) => exclusion.entered(cpu, d),
-        Some(Notice::Stepped { cpu }) => exclusion.stepped(cpu),
-        Some(Notice::Left { cpu }) => exclusion.left(cpu),
+    if let Some(notice) = notice {
+        tell(exclusion, notice);
     }
 }
 
@@ -115,7 +112,7 @@ impl<E: Exclusion> Works<E> {
         ensures performs { Performs E.Exclusion.told E.Exclusion.answers (self.old.core, self.old.exclusion) cpu t result (self.new.core, self.new.exclusion) }
     {
         let ran = step(&mut self.core, cpu, t);
-        tell(&mut self.exclusion, ran.notice);
+        tell_if(&mut self.exclusion, ran.notice);
         ran.settling
     }
 
