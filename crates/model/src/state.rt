@@ -139,7 +139,7 @@ pub struct Core {
 }
 
 /// The answer of an operation.
-#[derive(Clone, Copy)]
+#[derive(Clone, Copy, PartialEq, Eq, Debug)]
 pub enum Answer {
     /// 0: it is done.
     Done,

@@ -5,20 +5,11 @@ use exclusion::grace::Grace;
 use exclusion::masking::Masking;
 use exclusion::meaning::Exclusion;
 use faults::{Fault, Refusal};
-use image::fields::Sizes;
 use machine::machine::Machine;
 use model::state::{Answer, Settling};
-use sample::{SIGNATURE, TABLE, TEXT};
+use sample::{IMAGE, TABLE};
 use std::process::Abort;
 use std::test::Fail;
-
-const SIZES: Sizes = Sizes {
-    cpus: 1,
-    threads: 2,
-    nodes: 2,
-    packets: 1,
-    counters: 1,
-};
 
 const ADD_FIVE: RawOperation = RawOperation {
     kind: 1,
@@ -56,19 +47,9 @@ const TAKE: RawOperation = RawOperation {
     amount: 0,
 };
 
-/// The number and the value of a settling's answer; 9 where nothing settled.
-fn answer(settling: Option<Settling>) -> (u64, u64) {
-    match settling {
-        None => (9, 0),
-        Some(settling) => match settling.answer {
-            Answer::Done => (0, 0),
-            Answer::Got(value) => (1, value),
-            Answer::Empty => (2, 0),
-            Answer::Full => (3, 0),
-            Answer::NoNode => (4, 0),
-            Answer::HandFull => (5, 0),
-        },
-    }
+/// The answer of a settling, or none where nothing settled.
+fn answer(settling: Option<Settling>) -> Option<Answer> {
+    settling.map(|settling| settling.answer)
 }
 
 /// Runs thread 0 of CPU 0 to the end of an operation, which takes so many instructions and has this answer.
@@ -77,55 +58,55 @@ fn does<E: Exclusion>(
     machine: &mut Machine<E>,
     operation: RawOperation,
     instructions: u64,
-    expected: (u64, u64),
+    expected: Answer,
 ) -> Result<(), Fail> {
     assert_eq!(rt; machine.enlist(0, operation), Ok(()));
     let (count, settling) = machine.advance(0, 9)?;
     assert_eq!(rt; count, instructions);
-    assert_eq!(rt; answer(settling), expected);
+    assert_eq!(rt; answer(settling), Some(expected));
     Ok(())
 }
 
 #[test]
 fn a_pop_takes_the_first_node(rt: HostRuntime) -> Result<(), Fail> {
-    let mut machine = Machine::boot(SIZES, SIGNATURE, &TABLE, &TEXT, AbortRestart::new(&TABLE))?;
+    let mut machine = Machine::boot(&IMAGE, AbortRestart::new(&TABLE))?;
     assert_eq!(rt; machine.switch(0, 0), Ok(()));
-    does(&rt, &mut machine, POP, 7, (1, 1))?;
+    does(&rt, &mut machine, POP, 7, Answer::Got(1))?;
     assert_eq!(rt; machine.list_item(0, 0), Ok(Some(2)));
     assert_eq!(rt; machine.list_item(0, 1), Ok(None));
     assert_eq!(rt; machine.hand(0), Ok(Some(1)));
     assert_eq!(rt; machine.hand(1), Ok(None));
-    does(&rt, &mut machine, POP, 3, (5, 0))?;
-    does(&rt, &mut machine, PUSH, 6, (0, 0))?;
-    does(&rt, &mut machine, PUSH, 3, (4, 0))?;
+    does(&rt, &mut machine, POP, 3, Answer::HandFull)?;
+    does(&rt, &mut machine, PUSH, 6, Answer::Done)?;
+    does(&rt, &mut machine, PUSH, 3, Answer::NoNode)?;
     assert_eq!(rt; machine.list_item(0, 1), Ok(Some(2)));
     Ok(())
 }
 
 #[test]
 fn puts_and_takes_go_round_the_ring(rt: HostRuntime) -> Result<(), Fail> {
-    let mut machine = Machine::boot(SIZES, SIGNATURE, &TABLE, &TEXT, AbortRestart::new(&TABLE))?;
+    let mut machine = Machine::boot(&IMAGE, AbortRestart::new(&TABLE))?;
     assert_eq!(rt; machine.switch(0, 0), Ok(()));
-    does(&rt, &mut machine, PUT_NINE, 7, (0, 0))?;
+    does(&rt, &mut machine, PUT_NINE, 7, Answer::Done)?;
     assert_eq!(rt; machine.ring_item(0, 0), Ok(Some(9)));
-    does(&rt, &mut machine, PUT_EIGHT, 5, (3, 0))?;
-    does(&rt, &mut machine, TAKE, 7, (1, 9))?;
-    does(&rt, &mut machine, TAKE, 5, (2, 0))?;
+    does(&rt, &mut machine, PUT_EIGHT, 5, Answer::Full)?;
+    does(&rt, &mut machine, TAKE, 7, Answer::Got(9))?;
+    does(&rt, &mut machine, TAKE, 5, Answer::Empty)?;
     assert_eq!(rt; machine.ring_item(0, 0), Ok(None));
     Ok(())
 }
 
 #[test]
 fn a_masked_section_holds_a_switch(rt: HostRuntime) -> Result<(), Fail> {
-    let mut machine = Machine::boot(SIZES, SIGNATURE, &TABLE, &TEXT, Masking::new(&TABLE))?;
+    let mut machine = Machine::boot(&IMAGE, Masking::new(&TABLE))?;
     assert_eq!(rt; machine.enlist(0, ADD_FIVE), Ok(()));
     assert_eq!(rt; machine.switch(0, 0), Ok(()));
     let (count, settling) = machine.advance(0, 3)?;
     assert_eq!(rt; count, 3);
-    assert_eq!(rt; answer(settling), (9, 0));
+    assert_eq!(rt; answer(settling), None);
     assert_eq!(rt; machine.switch(0, 1), Err(Fault::at(Refusal::Held, 0)));
-    assert_eq!(rt; answer(machine.run(0)?), (9, 0));
-    assert_eq!(rt; answer(machine.run(0)?), (0, 0));
+    assert_eq!(rt; answer(machine.run(0)?), None);
+    assert_eq!(rt; answer(machine.run(0)?), Some(Answer::Done));
     assert_eq!(rt; machine.switch(0, 1), Ok(()));
     assert_eq!(rt; machine.counter(0, 0), Ok(5));
     Ok(())
@@ -133,13 +114,7 @@ fn a_masked_section_holds_a_switch(rt: HostRuntime) -> Result<(), Fail> {
 
 #[test]
 fn a_signal_interrupts_and_the_operation_starts_over(rt: HostRuntime) -> Result<(), Fail> {
-    let mut machine = Machine::boot(
-        SIZES,
-        SIGNATURE,
-        &TABLE,
-        &TEXT,
-        Grace::new(0, AbortRestart::new(&TABLE)),
-    )?;
+    let mut machine = Machine::boot(&IMAGE, Grace::new(0, AbortRestart::new(&TABLE)))?;
     assert_eq!(rt; machine.enlist(0, ADD_FIVE), Ok(()));
     assert_eq!(rt; machine.switch(0, 0), Ok(()));
     let (count, _) = machine.advance(0, 4)?;
@@ -147,10 +122,10 @@ fn a_signal_interrupts_and_the_operation_starts_over(rt: HostRuntime) -> Result<
     assert_eq!(rt; machine.signal(0, TAKE), Ok(()));
     let (first, taken) = machine.advance(0, 9)?;
     assert_eq!(rt; first, 5);
-    assert_eq!(rt; answer(taken), (2, 0));
+    assert_eq!(rt; answer(taken), Some(Answer::Empty));
     let (second, added) = machine.advance(0, 9)?;
     assert_eq!(rt; second, 6);
-    assert_eq!(rt; answer(added), (0, 0));
+    assert_eq!(rt; answer(added), Some(Answer::Done));
     assert_eq!(rt; machine.counter(0, 0), Ok(5));
     assert_eq!(rt; machine.idle(0), Ok(()));
     Ok(())
@@ -158,7 +133,7 @@ fn a_signal_interrupts_and_the_operation_starts_over(rt: HostRuntime) -> Result<
 
 #[test]
 fn calls_are_refused_by_number(rt: HostRuntime) -> Result<(), Fail> {
-    let mut machine = Machine::boot(SIZES, SIGNATURE, &TABLE, &TEXT, AbortRestart::new(&TABLE))?;
+    let mut machine = Machine::boot(&IMAGE, AbortRestart::new(&TABLE))?;
     assert_eq!(rt; machine.switch(1, 2), Err(Fault::at(Refusal::NoCpu, 0)));
     assert_eq!(rt; machine.switch(0, 2), Err(Fault::at(Refusal::NoThread, 0)));
     assert_eq!(rt; machine.idle(0), Err(Fault::at(Refusal::Idle, 0)));
@@ -196,7 +171,7 @@ fn calls_are_refused_by_number(rt: HostRuntime) -> Result<(), Fail> {
 fn a_boot_over_other_sections_is_refused(rt: HostRuntime) -> Result<(), Fail> {
     let mut other = TABLE;
     other[56] = 60;
-    let refused = Machine::boot(SIZES, SIGNATURE, &TABLE, &TEXT, AbortRestart::new(&other));
+    let refused = Machine::boot(&IMAGE, AbortRestart::new(&other));
     match refused {
         Ok(_) => {
             assert!(rt; false);

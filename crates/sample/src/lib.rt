@@ -1,6 +1,7 @@
 //! The sample image and the example schedule, worked out apart from the code.
 #![tactic(auto)]
 
+use image::checks::JobImage;
 use image::fields::Sizes;
 
 /// The sizes of the job of the example schedule.
@@ -31,6 +32,14 @@ pub const TABLE: [u8; 160] = [
 
 /// The signature of the sample text.
 pub const SIGNATURE: u32 = 0x53053053;
+
+/// The sample image as it is offered to boot.
+pub const IMAGE: JobImage<'static> = JobImage {
+    sizes: SIZES,
+    table: &TABLE,
+    text: &TEXT,
+    signature: SIGNATURE,
+};
 
 /// The schedule that lets thread 0 pop a node.
 pub const POP: [u8; 247] = [
