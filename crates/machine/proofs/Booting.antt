@@ -1,17 +1,13 @@
 -- A new machine, and the checks of a boot.
-use Rattle.std.proofs.Common.{◌≡◌, ℕ, zero, suc, ◌+◌, ◌-◌, ◌<◌, ◌≤◌, Bool, true, false, cond, ◌&&◌, ltb, leb, ◌⊎◌, List, [], ◌∷◌, ◌++◌, length, get_or, take, drop, set, replicate, Ok, Err, unwrap_or, sym, refl, ap, ◌∙◌, subst, inl, inr, ⊎_elim, arith, le-ltb, lt-ltb}
+use Rattle.std.proofs.Common.{◌≡◌, ℕ, zero, suc, ◌+◌, ◌-◌, ◌<◌, ◌≤◌, cond, ◌&&◌, ltb, leb, List, [], ◌∷◌, ◌++◌, length, get_or, take, drop, replicate, Ok, Err, unwrap_or, sym, refl, ap, ◌∙◌, subst, arith}
 use Rattle.std.specs.Fn.{Called, Mut}
-use Rattle.std.specs.Array.{IsElementAt, IsFromFnResultFrom, IsFromFnResult}
-use Rattle.std.proofs.lemmas.List.{drop-replicate, drop_more, drop_all, take_more, take_all}
+use Rattle.std.specs.Array.{IsFromFnResultFrom, IsFromFnResult}
+use Rattle.std.proofs.lemmas.List.{drop-replicate, take_more}
 use Rattle.faults.specs.declared.Fault.{Fault}
-use Rattle.faults.specs.declared.Refusal.TheVariants.{OtherSections}
-use Rattle.faults.specs.Numbering.{fault_at}
-use Rattle.words.specs.declared.Kind.{Kind}
-use Rattle.words.specs.declared.Kind.TheVariants.{Add}
-use Rattle.words.specs.Words.{kinds, kind_number}
+use Rattle.words.specs.Words.{kinds}
 use Rattle.image.specs.declared.fields.Sizes.{Sizes}
 use Rattle.image.specs.declared.layout.Section.{Section}
-use Rattle.image.specs.Layout.{section_of, sections_of}
+use Rattle.image.specs.Layout.{sections_of}
 use Rattle.image.specs.Checks.{Check, all_pass, image_checks, checked_image}
 use Rattle.image.specs.Accepted.{Acceptable}
 use Rattle.image.proofs.Checking.{passed, passed_on, passed_for, stopped, failed_for}
@@ -23,7 +19,7 @@ use Rattle.model.specs.declared.state.Cpu.{Cpu}
 use Rattle.model.specs.declared.state.Image.{Image}
 use Rattle.model.specs.declared.state.Core.{Core}
 use Rattle.model.specs.State.{no_cpu, no_thread, cpu_at, new_thread, new_cpu, new_core, tabulated}
-use Rattle.model.specs.Calls.{same_section, section_checks, image_of, booted_core, all_left}
+use Rattle.model.specs.Calls.{section_checks, image_of, booted_core, all_left}
 use Rattle.machine.specs.Sound.{Sound}
 
 -- A list by a function of the index, from what each call of a closure gave.
@@ -67,18 +63,6 @@ copied sections text words e =
     ap (λ (ws : List ℕ). record { sections = sections; text = record { words = ws ++ drop (length text) (replicate 256 0); count = length text } }) e
     ∙ ap (λ (ws : List ℕ). record { sections = sections; text = record { words = text ++ ws; count = length text } }) (drop-replicate (length text) 256 0)
 
--- The sections one by one: whether that of the kind at i is the exclusion's.
-pub compared : (section : ℕ → Section) (table : List ℕ) (these : List Kind) (i : ℕ) (same : Bool) → i < length these
-    → same ≡ same_section (section (kind_number (get_or these i Add))) (section_of table (get_or these i Add))
-    → all_pass (section_checks section table (drop i these))
-    ≡ cond same (all_pass (section_checks section table (drop (i + 1) these))) (Err (fault_at OtherSections (kind_number (get_or these i Add))))
-compared section table these i same below e =
-    ap (λ ks. all_pass (section_checks section table ks)) (drop_more these i Add below)
-    ∙ ap (λ b. cond b (all_pass (section_checks section table (drop (i + 1) these))) (Err (fault_at OtherSections (kind_number (get_or these i Add))))) (sym e)
-
-pub none_to_compare : (section : ℕ → Section) (table : List ℕ) (these : List Kind) (i : ℕ) → length these ≤ i → all_pass (section_checks section table (drop i these)) ≡ Ok tt
-none_to_compare section table these i past = ap (λ ks. all_pass (section_checks section table ks)) (drop_all i these past)
-
 -- Left for one CPU after another.
 told_push : {S : Type 0} (told : S → Notice → S → Type 0) (e : S) (ns : List Notice) (m : S) (n : Notice) (f : S) → ToldAll told e ns m → told m n f → ToldAll told e (ns ++ (n ∷ [])) f
 told_push told e [] m n f before last = (f, subst (λ x. told x n f) before last, refl)
@@ -98,9 +82,6 @@ left_at (suc (suc (suc (suc (suc (suc (suc (suc cpu)))))))) h = absurd (omega ar
 pub left_more : {S : Type 0} (told : S → Notice → S → Type 0) (e : S) (cpu : ℕ) (m f : S) → cpu < 8 → ToldAll told e (take cpu all_left) m → told m (Left cpu) f → ToldAll told e (take (cpu + 1) all_left) f
 left_more told e cpu m f h before last =
     subst (λ xs. ToldAll told e xs f) (sym (take_more all_left cpu (Left 0) h ∙ ap (λ n. take cpu all_left ++ (n ∷ [])) (left_at cpu h))) (told_push told e (take cpu all_left) m (Left cpu) f before last)
-
-pub left_whole : {S : Type 0} (told : S → Notice → S → Type 0) (e : S) (cpu : ℕ) (f : S) → 8 ≤ cpu → ToldAll told e (take cpu all_left) f → ToldAll told e all_left f
-left_whole told e cpu f h all = subst (λ xs. ToldAll told e xs f) (take_all cpu all_left h) all
 
 -- What is repeated holds of each, and past the end.
 each : {A : Type 0} (P : A → Type 0) (x d : A) (k i : ℕ) → P x → P d → P (get_or (replicate k x) i d)

@@ -1,10 +1,6 @@
-use Rattle.std.proofs.Common.{◌+◌, ◌-◌, ap, arith, subst}
-use Rattle.model.specs.Questions.{reached}
+use Rattle.std.proofs.Common.{◌+◌, ◌-◌, arith, subst}
 use Rattle.machine.proofs.Walks.{walk_ends, walk_arrives, walk_goes_on}
 use Rattle.machine.proofs.asking.reached.Goals as goal
-
-pub loop-init : goal.loop-init
-loop-init g c ends onward tests goes = ap (reached ends onward c.args.first) (omega arith)
 
 pub returns-then-ends : goal.returns-then-ends
 returns-then-ends g c = walk_ends _ _ c.loop.place (c.args.steps - c.loop.counter) c.args.first c.args.steps (subst (λ b. g.Ends.Fn.post c.args.ends (c.loop.place, tt) b) c.if-ends.true c.ends.ensures) c.loop.invariant

@@ -1,7 +1,7 @@
-use Rattle.std.proofs.Common.{◌+◌, None, Option, sym, subst, refl, ◌∙◌}
+use Rattle.std.proofs.Common.{◌+◌, Option, sym, subst, ◌∙◌}
 use Rattle.model.specs.declared.state.Settling.{Settling}
 use Rattle.model.specs.Calls.{Runs, none}
-use Rattle.machine.proofs.Steps.{one_more, stopped_short, settled_none, all_run}
+use Rattle.machine.proofs.Steps.{one_more, stopped_short, settled_none}
 use Rattle.machine.proofs.works.Works.perform_many.Goals as goal
 
 pub loop-done-init : goal.loop-done-init
@@ -18,9 +18,3 @@ loop-done-preserved g c =
     subst (λ (s : Option Settling). Runs g.E.Exclusion.told g.E.Exclusion.answers c.args.cpu c.args.t (c.loop-done.done + 1) s (c.args.self.now.core, c.args.self.now.exclusion) (c.perform_one-settling.new.self.core, c.perform_one-settling.new.self.exclusion))
     (settled_none c.perform_one-settling.result (sym c.is_some.ensures ∙ c.if-is_some.false))
     (one_more g.E.Exclusion.told g.E.Exclusion.answers c.args.cpu c.args.t c.loop-done.done _ _ _ _ c.loop-done.invariant c.perform_one-settling.ensures.performs)
-
-pub returns : goal.returns
-returns g c = record {
-  stopped = refl;
-  runs = all_run g.E.Exclusion.told g.E.Exclusion.answers c.args.cpu c.args.t c.loop-done.done c.args.instructions _ _ c.loop-done.auto.done-end c.loop-done-test.false c.loop-done.invariant;
-}
