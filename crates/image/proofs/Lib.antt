@@ -1,3 +1,4 @@
+pub mod Bytes
 pub mod Standing
 pub mod Checking
 pub mod Lying

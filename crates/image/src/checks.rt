@@ -23,10 +23,7 @@ pub const TEXT_LENGTH: usize = 256;
 fn has_number(text: &[u32], address: u64, number: u32) -> bool
     ensures defined { result ≡ is_word (word_at text.now address) number }
 {
-    match word_at(text, address) {
-        Some(word) => word == number,
-        None => false,
-    }
+    word_at(text, address) == Some(number)
 }
 
 /// Whether the words lie in the text, one after the other from an address on.
@@ -34,32 +31,25 @@ fn has_words(text: &[u32], start: u64, words: &[Word]) -> bool
     requires { (start < 2 ^ 32) × (length words.now ≤ 16) }
     ensures defined { result ≡ has_words text.now start words.now }
 {
-    let mut address = start;
-    for word in words {
-        if !has_number(text, address, word.number()) {
+    for (i, word) in words.iter().enumerate() {
+        if !has_number(text, start + 4 * i as u64, word.number()) {
             return false;
         }
-        address += 4;
     }
     true
 }
 
 /// Whether the routine of an operation lies in the text, with its section at `section`.
+#[tactic(auto, unfolding(crate::specs::Checks::has_routine))]
 fn has_routine(text: &[u32], kind: Kind, section: Section) -> bool
     requires { section.start < 2 ^ 32 }
     ensures defined { result ≡ has_routine text.now kind section }
 {
     let words = kind.section_words();
-    if section.length != 4 * words.len() as u64 {
-        return false;
-    }
-    if !has_number(text, section.start.saturating_sub(4), Word::Enter.number()) {
-        return false;
-    }
-    if !has_words(text, section.start, words) {
-        return false;
-    }
-    has_number(text, section.abort, Word::Restart.number())
+    section.length == 4 * words.len() as u64
+        && has_number(text, section.start.saturating_sub(4), Word::Enter.number())
+        && has_words(text, section.start, words)
+        && has_number(text, section.abort, Word::Restart.number())
 }
 
 /// Checks one descriptor: the first of its faults, if it has one.

@@ -1,11 +1,15 @@
 //! The numbers of a job and their limits.
-ghost use Rattle.std.specs.Prelude.{◌≡◌, ◌≤◌, [], ◌∷◌, IfOk};
+ghost use Rattle.std.specs.Prelude.{◌≡◌, ◌≤◌, [], ◌∷◌, IfOk, Some, false};
+ghost use Rattle.std.specs.Range.{range_inclusive_end, range_inclusive_exhausted, range_inclusive_start};
+ghost use Rattle.image.specs.Names.{field_name};
 ghost use Rattle.image.specs.Checks.{field_check, field_place, first_failing, largest, least};
 
 use faults::{Fault, Refusal};
+use std::fmt;
+use std::ops::RangeInclusive;
 
 /// The sizes of a job: its CPUs, its threads, its nodes, the packets that a ring holds and the counters on a CPU.
-#[derive(Clone, Copy)]
+#[derive(Clone, Copy, PartialEq, Eq, Debug)]
 pub struct Sizes {
     pub cpus: u64,
     pub threads: u64,
@@ -15,7 +19,7 @@ pub struct Sizes {
 }
 
 /// A number of a job. Its own number is the place by which a refusal names it.
-#[derive(Clone, Copy)]
+#[derive(Clone, Copy, PartialEq, Eq, Debug)]
 pub enum Field {
     /// Which exclusion the job asks for.
     Exclusion = 1,
@@ -45,20 +49,21 @@ impl Field {
         self as usize
     }
 
-    /// The least and the largest number that the field may have.
-    fn limits(self) -> (u64, u64)
-        ensures limited { result ≡ (least self, largest self) }
+    /// The numbers that the field may have.
+    fn limits(self) -> RangeInclusive<u64>
+        ensures from_the_least { range_inclusive_start result ≡ least self }
+        ensures to_the_largest { range_inclusive_end result ≡ largest self }
+        ensures whole { range_inclusive_exhausted result ≡ false }
     {
         match self {
-            Field::Exclusion => (0, 2),
-            Field::Grace => (0, 255),
-            Field::Cpus => (1, 8),
-            Field::Threads => (1, 16),
-            Field::Nodes => (0, 255),
-            Field::Packets => (1, 15),
-            Field::Counters => (1, 8),
-            Field::Signature => (0, 4294967295),
-            Field::TextWord => (0, 4294967295),
+            Field::Exclusion => 0..=2,
+            Field::Grace => 0..=255,
+            Field::Cpus => 1..=8,
+            Field::Threads => 1..=16,
+            Field::Nodes => 0..=255,
+            Field::Packets => 1..=15,
+            Field::Counters => 1..=8,
+            Field::Signature | Field::TextWord => 0..=4294967295,
         }
     }
 
@@ -67,11 +72,29 @@ impl Field {
         ensures defined { result ≡ first_failing n (field_check self n ∷ []) }
         ensures within_limits { IfOk result (λ m. (m ≡ n) × (least self ≤ n) × (n ≤ largest self)) }
     {
-        let (least, largest) = self.limits();
-        if least <= n && n <= largest {
+        if self.limits().contains(&n) {
             Ok(n)
         } else {
             Err(Fault::at(Refusal::OutOfRange, self.place()))
         }
+    }
+}
+
+/// Writes the field's name.
+impl fmt::Display for Field {
+    ghost output = { λ field. Some (field_name field) };
+
+    fn fmt<W: fmt::Write>(&self, f: &mut fmt::Formatter<W>) -> fmt::Result {
+        f.write_str(match self {
+            Field::Exclusion => "exclusion",
+            Field::Grace => "grace",
+            Field::Cpus => "cpus",
+            Field::Threads => "threads",
+            Field::Nodes => "nodes",
+            Field::Packets => "packets",
+            Field::Counters => "counters",
+            Field::Signature => "signature",
+            Field::TextWord => "word",
+        })
     }
 }

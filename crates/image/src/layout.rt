@@ -1,7 +1,8 @@
 //! Where words and records lie.
-ghost use Rattle.std.specs.Prelude.{◌≡◌, ℕ, ◌+◌, ◌<◌, ◌≤◌, Decides, MatchOption, slice_index};
-ghost use Rattle.image.specs.Layout.{Inside, LiesAt, descriptor_fields, descriptor_of, eight_bytes, four_bytes, inside, record_offset, section_fields, section_of, sections_of, word_at};
+ghost use Rattle.std.specs.Prelude.{◌≡◌, ℕ, ◌+◌, ◌<◌, ◌≤◌, Decides, EachIndex, MatchOption, slice_index};
+ghost use Rattle.image.specs.Layout.{Inside, LiesAt, descriptor_of, inside, record_offset, section_of, sections_of, word_at};
 
+use std::array;
 use words::Kind;
 
 /// A restartable section: the address of its first word, its length in bytes, and the address to which a thread that is
@@ -14,7 +15,7 @@ pub struct Section {
 }
 
 /// A record of the descriptor table.
-#[derive(Clone, Copy)]
+#[derive(Clone, Copy, PartialEq, Eq, Debug)]
 pub struct Descriptor {
     pub version: u32,
     pub flags: u32,
@@ -29,22 +30,10 @@ pub fn word_at(text: &[u32], address: u64) -> Option<u32>
     ensures defined { result ≡ word_at text.now address }
     ensures the_word_that_lies_there { MatchOption result ((word : ℕ) → LiesAt text.now address word → ⊥) (λ word. LiesAt text.now address word) }
 {
-    look_up(text, address)
-}
-
-/// Looks a word up by its address.
-fn look_up(text: &[u32], address: u64) -> Option<u32>
-    ensures defined { result ≡ word_at text.now address }
-{
     if address < TEXT_START || address % 4 != 0 {
         return None;
     }
-    let i = (address - TEXT_START) / 4;
-    if i < text.len() as u64 {
-        Some(text[i as usize])
-    } else {
-        None
-    }
+    text.get(((address - TEXT_START) / 4) as usize).copied()
 }
 
 impl Section {
@@ -53,20 +42,20 @@ impl Section {
         ensures defined { result ≡ inside self address }
         ensures true_exactly_inside { Decides result (Inside self address) }
     {
-        self.covers(address)
-    }
-
-    fn covers(self, address: u64) -> bool
-        ensures defined { result ≡ inside self address }
-    {
         self.start <= address && address - self.start < self.length
     }
 
     /// The section of an operation's descriptor in a table of any length, whose missing bytes count as 0.
+    #[tactic(auto, using(crate::proofs::Bytes::of_eight), unfolding(crate::specs::Layout::section_of))]
     pub fn of(table: &[u8], kind: Kind) -> Section
         ensures defined { result ≡ section_of table.now kind }
     {
-        section_at(table, record_offset(kind))
+        let at = record_offset(kind);
+        Section {
+            start: u64::from_le_bytes(bytes_at(table, at + 8)),
+            length: u64::from_le_bytes(bytes_at(table, at + 16)),
+            abort: u64::from_le_bytes(bytes_at(table, at + 24)),
+        }
     }
 }
 
@@ -75,45 +64,21 @@ impl Section {
 pub fn sections(table: &[u8]) -> [Section; 5]
     ensures defined { result ≡ sections_of table.now }
 {
-    [
-        Section::of(table, Kind::Add),
-        Section::of(table, Kind::Push),
-        Section::of(table, Kind::Pop),
-        Section::of(table, Kind::Put),
-        Section::of(table, Kind::Take),
-    ]
+    [Kind::Add, Kind::Push, Kind::Pop, Kind::Put, Kind::Take].map(|kind| Section::of(table, kind))
 }
 
 impl Descriptor {
     /// An operation's descriptor in a table of any length, whose missing bytes count as 0.
+    #[tactic(auto, using(crate::proofs::Bytes::of_four), unfolding(crate::specs::Layout::descriptor_of))]
     pub fn of(table: &[u8], kind: Kind) -> Descriptor
         ensures defined { result ≡ descriptor_of table.now kind }
     {
-        descriptor_at(table, record_offset(kind), Section::of(table, kind))
-    }
-}
-
-/// The section that the record at an offset tells.
-fn section_at(table: &[u8], at: usize) -> Section
-    requires { at < 800 }
-    ensures defined { result ≡ section_fields table.now at }
-{
-    Section {
-        start: eight_bytes(table, at + 8),
-        length: eight_bytes(table, at + 16),
-        abort: eight_bytes(table, at + 24),
-    }
-}
-
-/// The record at an offset, with the section that it tells.
-fn descriptor_at(table: &[u8], at: usize, section: Section) -> Descriptor
-    requires { at < 800 }
-    ensures defined { result ≡ descriptor_fields table.now at section }
-{
-    Descriptor {
-        version: four_bytes(table, at),
-        flags: four_bytes(table, at + 4),
-        section,
+        let at = record_offset(kind);
+        Descriptor {
+            version: u32::from_le_bytes(bytes_at(table, at)),
+            flags: u32::from_le_bytes(bytes_at(table, at + 4)),
+            section: Section::of(table, kind),
+        }
     }
 }
 
@@ -124,27 +89,10 @@ pub(crate) fn record_offset(kind: Kind) -> usize
     32 * (kind.number() - 1)
 }
 
-fn byte_at(table: &[u8], at: usize) -> u8
-    ensures defined { result ≡ slice_index table.now at }
+/// The bytes of a table from a place on, of which missing ones are 0.
+fn bytes_at<const N: usize>(table: &[u8], at: usize) -> [u8; N]
+    ensures defined { EachIndex result (λ k. slice_index result k ≡ slice_index table.now (at + k)) }
 {
-    if at < table.len() { table[at] } else { 0 }
-}
-
-fn four_bytes(table: &[u8], at: usize) -> u32
-    requires { at < 1000 }
-    ensures defined { result ≡ four_bytes table.now at }
-{
-    u32::from_le_bytes([
-        byte_at(table, at),
-        byte_at(table, at + 1),
-        byte_at(table, at + 2),
-        byte_at(table, at + 3),
-    ])
-}
-
-fn eight_bytes(table: &[u8], at: usize) -> u64
-    requires { at < 900 }
-    ensures defined { result ≡ eight_bytes table.now at }
-{
-    u64::from(four_bytes(table, at)) + u64::from(four_bytes(table, at + 4)) * 4294967296
+    let rest = table.get(at..).unwrap_or(&[]);
+    array::from_fn(|k| rest.get(k).copied().unwrap_or(0))
 }
