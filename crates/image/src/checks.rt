@@ -52,40 +52,6 @@ fn has_routine(text: &[u32], kind: Kind, section: Section) -> bool
         && has_number(text, section.abort, Word::Restart.number())
 }
 
-/// Checks one descriptor: the first of its faults, if it has one.
-fn check_descriptor(table: &[u8], kind: Kind, text: &[u32], signature: u32) -> Result<(), Fault>
-    ensures defined { result ≡ all_pass (descriptor_checks text.now signature kind (descriptor_of table.now kind)) }
-{
-    let descriptor = Descriptor::of(table, kind);
-    let section = descriptor.section;
-    let at = record_offset(kind);
-    if descriptor.version != 0 {
-        return Err(Fault::at(Refusal::Version, at));
-    }
-    if descriptor.flags != 0 {
-        return Err(Fault::at(Refusal::Flags, at + 4));
-    }
-    if section.start >= ADDRESS_LIMIT {
-        return Err(Fault::at(Refusal::Unaddressable, at + 8));
-    }
-    if section.length >= ADDRESS_LIMIT - section.start {
-        return Err(Fault::at(Refusal::Unaddressable, at + 16));
-    }
-    if section.abort >= ADDRESS_LIMIT {
-        return Err(Fault::at(Refusal::Unaddressable, at + 24));
-    }
-    if section.contains(section.abort) {
-        return Err(Fault::at(Refusal::AbortInside, at + 24));
-    }
-    if !has_number(text, section.abort.saturating_sub(4), signature) {
-        return Err(Fault::at(Refusal::Unsigned, at + 24));
-    }
-    if !has_routine(text, kind, section) {
-        return Err(Fault::at(Refusal::WrongWords, at + 16));
-    }
-    Ok(())
-}
-
 /// Checks the sizes of a job.
 fn check_sizes(sizes: &Sizes) -> Result<u64, Fault>
     ensures defined { result ≡ first_failing sizes.now.counters (size_checks sizes.now) }
@@ -108,41 +74,78 @@ pub fn accept_text_length(words: u64) -> Result<u64, Fault>
     Ok(words)
 }
 
-/// Checks the descriptors of operations, in their order: the first fault, if there is one.
-fn check_descriptors(
-    table: &[u8],
-    kinds: &[Kind],
-    text: &[u32],
-    signature: u32,
-) -> Result<(), Fault>
-    ensures defined { result ≡ all_pass (all_descriptor_checks table.now text.now signature kinds.now) }
-{
-    for kind in kinds {
-        check_descriptor(table, *kind, text, signature)?;
-    }
-    Ok(())
+/// The image of a job as it is offered to boot: any sizes, table, text and signature.
+#[derive(Clone, Copy)]
+pub struct JobImage<'a> {
+    pub sizes: Sizes,
+    pub table: &'a [u8],
+    pub text: &'a [u32],
+    pub signature: u32,
 }
 
-/// Tries all checks of an image in their order.
-fn try_checks(
-    sizes: &Sizes,
-    table: &[u8],
-    text: &[u32],
-    signature: u32,
-) -> Result<[Section; 5], Fault>
-    ensures defined { result ≡ checked_image sizes.now table.now text.now signature }
-{
-    check_sizes(sizes)?;
-    if table.len() != TABLE_LENGTH {
-        return Err(Fault::at(Refusal::ImageLength, 0));
+impl JobImage<'_> {
+    /// Checks the image: its five sections where every rule holds, and else the fault of the first rule that does not.
+    pub fn check(&self) -> Result<[Section; 5], Fault>
+        ensures defined { result ≡ checked_image self.now.sizes self.now.table.now self.now.text.now self.now.signature }
+        ensures accepted_exactly_if_every_rule_holds { AcceptedExactly self.now.sizes self.now.table.now self.now.text.now self.now.signature result }
+        ensures else_refused_by_the_first_that_fails { FirstThatFails (image_checks self.now.sizes self.now.table.now self.now.text.now self.now.signature) result }
+        ensures accepted_sections_lie_apart { LaidOutIfAccepted self.now.table.now self.now.text.now result }
+    {
+        check_sizes(&self.sizes)?;
+        if self.table.len() != TABLE_LENGTH {
+            return Err(Fault::at(Refusal::ImageLength, 0));
+        }
+        accept_text_length(self.text.len() as u64)?;
+        self.check_descriptors(Kind::all())?;
+        Ok(sections(self.table))
     }
-    accept_text_length(text.len() as u64)?;
-    check_descriptors(table, Kind::all(), text, signature)?;
-    Ok(sections(table))
+
+    /// Checks the descriptors of operations, in their order: the first fault, if there is one.
+    fn check_descriptors(&self, kinds: &[Kind]) -> Result<(), Fault>
+        ensures defined { result ≡ all_pass (all_descriptor_checks self.now.table.now self.now.text.now self.now.signature kinds.now) }
+    {
+        for kind in kinds {
+            self.check_descriptor(*kind)?;
+        }
+        Ok(())
+    }
+
+    /// Checks one descriptor: the first of its faults, if it has one.
+    fn check_descriptor(&self, kind: Kind) -> Result<(), Fault>
+        ensures defined { result ≡ all_pass (descriptor_checks self.now.text.now self.now.signature kind (descriptor_of self.now.table.now kind)) }
+    {
+        let descriptor = Descriptor::of(self.table, kind);
+        let section = descriptor.section;
+        let at = record_offset(kind);
+        if descriptor.version != 0 {
+            return Err(Fault::at(Refusal::Version, at));
+        }
+        if descriptor.flags != 0 {
+            return Err(Fault::at(Refusal::Flags, at + 4));
+        }
+        if section.start >= ADDRESS_LIMIT {
+            return Err(Fault::at(Refusal::Unaddressable, at + 8));
+        }
+        if section.length >= ADDRESS_LIMIT - section.start {
+            return Err(Fault::at(Refusal::Unaddressable, at + 16));
+        }
+        if section.abort >= ADDRESS_LIMIT {
+            return Err(Fault::at(Refusal::Unaddressable, at + 24));
+        }
+        if section.contains(section.abort) {
+            return Err(Fault::at(Refusal::AbortInside, at + 24));
+        }
+        if !has_number(self.text, section.abort.saturating_sub(4), self.signature) {
+            return Err(Fault::at(Refusal::Unsigned, at + 24));
+        }
+        if !has_routine(self.text, kind, section) {
+            return Err(Fault::at(Refusal::WrongWords, at + 16));
+        }
+        Ok(())
+    }
 }
 
-/// Checks the image of a job, of any sizes, table, text and signature: its five sections where every rule holds, and else
-/// the fault of the first rule that does not.
+/// Checks the image of a job that is given by its parts.
 pub fn check_image(
     sizes: &Sizes,
     table: &[u8],
@@ -154,5 +157,11 @@ pub fn check_image(
     ensures else_refused_by_the_first_that_fails { FirstThatFails (image_checks sizes.now table.now text.now signature) result }
     ensures accepted_sections_lie_apart { LaidOutIfAccepted table.now text.now result }
 {
-    try_checks(sizes, table, text, signature)
+    let image = JobImage {
+        sizes: *sizes,
+        table,
+        text,
+        signature,
+    };
+    image.check()
 }

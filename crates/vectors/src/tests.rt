@@ -7,7 +7,7 @@ use exclusion::meaning::{Exclusion, Notice, Verdict};
 use exclusion::rollback::AddressRollback;
 use exclusion_laws::{ask, ask_both_classic, ask_masking};
 use faults::{Fault, Refusal};
-use image::checks::check_image;
+use image::checks::JobImage;
 use image::fields::Sizes;
 use image::layout::Section;
 use numbers::{number_at, write_number};
@@ -24,6 +24,13 @@ const SIZES: Sizes = Sizes {
     nodes: 2,
     packets: 1,
     counters: 1,
+};
+
+const IMAGE: JobImage<'static> = JobImage {
+    sizes: SIZES,
+    table: &TABLE,
+    text: &TEXT,
+    signature: SIGNATURE,
 };
 
 fn spelled(rt: &impl Abort, n: u64, bytes: &[u8]) -> Result<(), Fail> {
@@ -104,7 +111,7 @@ fn a_number_that_does_not_fit_leaves_the_buffer(rt: HostRuntime) {
 
 #[test]
 fn the_sample_image_is_accepted(rt: HostRuntime) -> Result<(), Fail> {
-    let sections = check_image(&SIZES, &TABLE, &TEXT, SIGNATURE)?;
+    let sections = IMAGE.check()?;
     let add = Section {
         start: 4100,
         length: 16,
@@ -126,7 +133,11 @@ fn table_refused(rt: &impl Abort, at: usize, byte: u8, refusal: Refusal, place: 
     assert!(rt; at < 160);
     table[at] = byte;
     assert_eq!(rt;
-        check_image(&SIZES, &table, &TEXT, SIGNATURE),
+        JobImage {
+            table: &table,
+            ..IMAGE
+        }
+        .check(),
         Err(Fault::at(refusal, place))
     );
 }
@@ -157,7 +168,11 @@ fn length_refused(rt: &impl Abort, length: u64, refusal: Refusal, place: usize) 
     table[20] = bytes[4];
     table[23] = bytes[7];
     assert_eq!(rt;
-        check_image(&SIZES, &table, &TEXT, SIGNATURE),
+        JobImage {
+            table: &table,
+            ..IMAGE
+        }
+        .check(),
         Err(Fault::at(refusal, place))
     );
 }
@@ -177,7 +192,11 @@ fn text_refused(rt: &impl Abort, at: usize, word: u32, refusal: Refusal, place: 
     assert!(rt; at < 42);
     text[at] = word;
     assert_eq!(rt;
-        check_image(&SIZES, &TABLE, &text, SIGNATURE),
+        JobImage {
+            text: &text,
+            ..IMAGE
+        }
+        .check(),
         Err(Fault::at(refusal, place))
     );
 }
@@ -195,7 +214,7 @@ fn each_word_of_a_routine_counts(rt: HostRuntime) {
 
 fn sizes_refused(rt: &impl Abort, sizes: Sizes, place: usize) {
     assert_eq!(rt;
-        check_image(&sizes, &TABLE, &TEXT, SIGNATURE),
+        JobImage { sizes, ..IMAGE }.check(),
         Err(Fault::at(Refusal::OutOfRange, place))
     );
 }
@@ -244,11 +263,19 @@ fn sizes_and_lengths_are_held_to_their_limits(rt: HostRuntime) {
         },
         3,
     );
-    let short = check_image(&SIZES, &TABLE[0..159], &TEXT, SIGNATURE);
+    let short = JobImage {
+        table: &TABLE[0..159],
+        ..IMAGE
+    }
+    .check();
     assert_eq!(rt; short, Err(Fault::at(Refusal::ImageLength, 0)));
-    let empty = check_image(&SIZES, &TABLE, &[], SIGNATURE);
+    let empty = JobImage { text: &[], ..IMAGE }.check();
     assert_eq!(rt; empty, Err(Fault::at(Refusal::ImageLength, 1)));
-    let long = check_image(&SIZES, &TABLE, &[1; 257], SIGNATURE);
+    let long = JobImage {
+        text: &[1; 257],
+        ..IMAGE
+    }
+    .check();
     assert_eq!(rt; long, Err(Fault::at(Refusal::ImageLength, 1)));
 }
 
