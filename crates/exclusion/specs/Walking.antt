@@ -71,22 +71,6 @@ rollback_says sections cpu armed place v e = record {
       inr (e ∙ ap back_to_start (finds_alone (section_at sections) place 5 1 armed n.0 n.1 only.inside only.alone));
 }
 
--- How far a walk to the last has come.
-abbrev pub Walked : (ℕ → Section) → ℕ → ℕ → ℕ → Type 0
-Walked section place last d = (k : ℕ) × (k + d ≡ last + 1) × (first_inside section place k d ≡ first_inside section place last 1)
-
-pub walk_on : (section : ℕ → Section) (place last d : ℕ) → Walked section place last d → d < last + 1 → inside (section d) place ≡ false → Walked section place last (d + 1)
-walk_on section place last d (zero, many, same) h e = absurd (omega arith)
-walk_on section place last d (suc k, many, same) h e = (k, omega arith, sym (passed section place k d e) ∙ same)
-
-pub walk_found : (section : ℕ → Section) (place last d : ℕ) → Walked section place last d → d < last + 1 → inside (section d) place ≡ true → Some (section d) ≡ first_inside section place last 1
-walk_found section place last d (zero, many, same) h e = absurd (omega arith)
-walk_found section place last d (suc k, many, same) h e = sym (found section place k d e) ∙ same
-
-pub walk_ended : (section : ℕ → Section) (place last d : ℕ) → Walked section place last d → last + 1 ≤ d → None ≡ first_inside section place last 1
-walk_ended section place last d (zero, many, same) h = sym (none_left section place d) ∙ same
-walk_ended section place last d (suc k, many, same) h = absurd (omega arith)
-
 -- What abort restart answers.
 pub abort_says : (sections : List Section) (cpu armed place : ℕ) (v : Verdict) → v ≡ abort_restarts sections armed place → Says (impatient sections) cpu armed place v
 abort_says sections cpu armed place v e = record {

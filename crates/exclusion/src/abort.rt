@@ -4,33 +4,33 @@ ghost use Rattle.image.specs.Layout.{sections_of};
 ghost use Rattle.std.specs.Prelude.{◌≡◌};
 ghost use Rattle.std.proofs.Common.{rules};
 
-use super::meaning::{Exclusion, Verdict};
-use super::parts::Sections;
-use image::layout::Section;
+use super::meaning::{Exclusion, Standing, Verdict};
+use super::sections::section_at;
+use image::layout::{Section, sections};
 
 /// Abort restart, as Linux has it: looks only at the armed section and goes back to its abort.
 #[derive(Clone, Copy)]
 pub struct AbortRestart {
-    sections: Sections,
+    sections: [Section; 5],
 }
 
 impl AbortRestart {
     /// Made from a table of any bytes.
     pub fn new(table: &[u8]) -> AbortRestart
-        ensures made_from_the_table { result.sections.list ≡ sections_of table.now }
+        ensures made_from_the_table { result.sections ≡ sections_of table.now }
     {
         AbortRestart {
-            sections: Sections::of(table),
+            sections: sections(table),
         }
     }
 }
 
 impl Exclusion for AbortRestart {
-    ghost meaning = { λ e. impatient e.sections.list };
+    ghost meaning = { λ e. impatient e.sections };
 
     ghost told = { λ e n f. f ≡ e };
 
-    ghost answers = { λ e cpu armed place v. v ≡ abort_restarts e.sections.list armed place };
+    ghost answers = { λ e cpu armed place v. v ≡ abort_restarts e.sections armed place };
 
     ghost shaped = { Prim.search rules };
 
@@ -39,7 +39,7 @@ impl Exclusion for AbortRestart {
     ghost says = { Prim.search rules };
 
     fn section(&self, d: usize) -> Section {
-        self.sections.section(d)
+        section_at(&self.sections, d)
     }
 
     fn entered(&mut self, _cpu: usize, _d: usize) {}
@@ -48,9 +48,9 @@ impl Exclusion for AbortRestart {
 
     fn left(&mut self, _cpu: usize) {}
 
-    fn disturbed(&self, _cpu: usize, armed: usize, place: u64) -> Verdict {
-        let section = self.sections.section(armed);
-        if section.contains(place) {
+    fn disturbed(&self, standing: Standing) -> Verdict {
+        let section = section_at(&self.sections, standing.armed);
+        if section.contains(standing.place) {
             Verdict::Back(section.abort)
         } else {
             Verdict::Outside

@@ -6,7 +6,7 @@ ghost use Rattle.exclusion.specs.declared.meaning.Verdict.{Verdict};
 ghost use Rattle.exclusion.specs.Counting.{layered_obeys, layered_says};
 ghost use Rattle.std.proofs.Common.{rules};
 
-use super::meaning::{Exclusion, Verdict};
+use super::meaning::{Exclusion, Standing, Verdict};
 use super::parts::{Patience, held_while};
 use image::layout::Section;
 
@@ -71,10 +71,10 @@ impl<E: Exclusion> Exclusion for Grace<E> {
         self.patience.set(cpu, 0);
     }
 
-    fn disturbed(&self, cpu: usize, armed: usize, place: u64) -> Verdict {
+    fn disturbed(&self, standing: Standing) -> Verdict {
         held_while(
-            self.patience.at(cpu),
-            self.lower.disturbed(cpu, armed, place),
+            self.patience.at(standing.cpu),
+            self.lower.disturbed(standing),
         )
     }
 }

@@ -7,3 +7,4 @@ pub mod masking;
 pub mod meaning;
 mod parts;
 pub mod rollback;
+pub mod sections;

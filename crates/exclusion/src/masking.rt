@@ -7,7 +7,7 @@ ghost use Rattle.exclusion.specs.Counting.{impatient_obeys, layered_obeys, layer
 ghost use Rattle.exclusion.specs.Walking.{rollback_says};
 ghost use Rattle.std.proofs.Common.{rules};
 
-use super::meaning::{Exclusion, Verdict};
+use super::meaning::{Exclusion, Standing, Verdict};
 use super::parts::{Patience, held_while};
 use super::rollback::AddressRollback;
 use image::layout::Section;
@@ -22,7 +22,7 @@ pub struct Masking {
 impl Masking {
     /// Made from a table of any bytes, with no patience.
     pub fn new(table: &[u8]) -> Masking
-        ensures made_from_the_table { result.rollback.sections.list ≡ sections_of table.now }
+        ensures made_from_the_table { result.rollback.sections ≡ sections_of table.now }
         ensures without_patience { result.patience.remaining ≡ replicate 8 0 }
     {
         Masking {
@@ -33,21 +33,21 @@ impl Masking {
 }
 
 impl Exclusion for Masking {
-    ghost meaning = { λ e. layered (impatient e.rollback.sections.list) e.patience.remaining };
+    ghost meaning = { λ e. layered (impatient e.rollback.sections) e.patience.remaining };
 
-    ghost told = { λ e n f. (f.rollback ≡ e.rollback) × (f.patience.remaining ≡ counted (masking_choice e.rollback.sections.list) e.patience.remaining n) };
+    ghost told = { λ e n f. (f.rollback ≡ e.rollback) × (f.patience.remaining ≡ counted (masking_choice e.rollback.sections) e.patience.remaining n) };
 
-    ghost answers = { λ e cpu armed place v. v ≡ held_while (patience_at e.patience.remaining cpu) (rolls_back e.rollback.sections.list place) };
+    ghost answers = { λ e cpu armed place v. v ≡ held_while (patience_at e.patience.remaining cpu) (rolls_back e.rollback.sections place) };
 
     ghost shaped = { Prim.search rules };
 
     ghost obeys = { λ e n f told.
-        let sections = e.rollback.sections.list in
+        let sections = e.rollback.sections in
         let made = layered_obeys (impatient sections) (impatient sections) e.patience.remaining (masking_choice sections) n (impatient_obeys sections n) in
         rw (told.0, told.1) made };
 
     ghost says = { λ e cpu armed place v answer.
-        let sections = e.rollback.sections.list in
+        let sections = e.rollback.sections in
         rw answer (layered_says (impatient sections) e.patience.remaining cpu armed place (rolls_back sections place) (rollback_says sections cpu armed place (rolls_back sections place) refl)) };
 
     fn section(&self, d: usize) -> Section {
@@ -68,10 +68,10 @@ impl Exclusion for Masking {
         self.patience.set(cpu, 0);
     }
 
-    fn disturbed(&self, cpu: usize, armed: usize, place: u64) -> Verdict {
+    fn disturbed(&self, standing: Standing) -> Verdict {
         held_while(
-            self.patience.at(cpu),
-            self.rollback.disturbed(cpu, armed, place),
+            self.patience.at(standing.cpu),
+            self.rollback.disturbed(standing),
         )
     }
 }

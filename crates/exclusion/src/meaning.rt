@@ -19,7 +19,7 @@ pub enum Verdict {
 }
 
 /// What an exclusion is told.
-#[derive(Clone, Copy)]
+#[derive(Clone, Copy, PartialEq, Eq, Debug)]
 pub enum Notice {
     /// A CPU's thread has entered section d: told after the section's first instruction.
     Entered { cpu: usize, d: usize },
@@ -28,6 +28,15 @@ pub enum Notice {
     /// It has left its section, or the CPU: told when the operation ends, when the thread is taken away or interrupted, and for
     /// CPUs 0 to 7 when a machine is booted.
     Left { cpu: usize },
+}
+
+/// Where a thread stands that is to be disturbed: its CPU, the number of the armed descriptor, 0 if none is, and its place. A
+/// descriptor is armed from the entry of its routine until its section ends.
+#[derive(Clone, Copy, PartialEq, Eq, Debug)]
+pub struct Standing {
+    pub cpu: usize,
+    pub armed: usize,
+    pub place: u64,
 }
 
 /// An exclusion: a set of restartable sections, and a way to keep each of them from being disturbed halfway. The machine
@@ -58,14 +67,24 @@ pub trait Exclusion {
     fn left(&mut self, cpu: usize)
         ensures told_so { told self.old (Left cpu) self.new };
 
-    /// What becomes of a CPU's thread that is disturbed at a place while a descriptor is armed (0 if none is). A descriptor
-    /// is armed from the entry of its routine until its section ends.
-    fn disturbed(&self, cpu: usize, armed: usize, place: u64) -> Verdict
-        ensures as_it_answers { answers self.now cpu armed place result };
+    /// What becomes of a thread that is disturbed where it stands.
+    fn disturbed(&self, standing: Standing) -> Verdict
+        ensures as_it_answers { answers self.now standing.cpu standing.armed standing.place result };
 
     ghost shaped: { (e : Self) → Shaped (meaning e) };
 
     ghost obeys: { (e : Self) (n : Notice) (f : Self) → told e n f → Obeys (meaning e) n (meaning f) };
 
     ghost says: { (e : Self) (cpu armed place : ℕ) (v : Verdict) → answers e cpu armed place v → Says (meaning e) cpu armed place v };
+}
+
+/// Tells an exclusion one thing.
+pub fn tell<E: Exclusion>(exclusion: &mut E, notice: Notice)
+    ensures told_so { E.Exclusion.told exclusion.old notice exclusion.new }
+{
+    match notice {
+        Notice::Entered { cpu, d } => exclusion.entered(cpu, d),
+        Notice::Stepped { cpu } => exclusion.stepped(cpu),
+        Notice::Left { cpu } => exclusion.left(cpu),
+    }
 }

@@ -5,43 +5,43 @@ ghost use Rattle.std.specs.Prelude.{◌≡◌};
 ghost use Rattle.exclusion.specs.Walking.{rollback_says};
 ghost use Rattle.std.proofs.Common.{rules};
 
-use super::meaning::{Exclusion, Verdict};
-use super::parts::Sections;
-use image::layout::Section;
+use super::meaning::{Exclusion, Standing, Verdict};
+use super::sections::{holding, section_at};
+use image::layout::{Section, sections};
 
 /// Address rollback, the oldest way: looks at all sections and goes back to the start of the one that the place is inside, the
 /// first if it is inside several.
 #[derive(Clone, Copy)]
 pub struct AddressRollback {
-    sections: Sections,
+    sections: [Section; 5],
 }
 
 impl AddressRollback {
     /// Made from a table of any bytes.
     pub fn new(table: &[u8]) -> AddressRollback
-        ensures made_from_the_table { result.sections.list ≡ sections_of table.now }
+        ensures made_from_the_table { result.sections ≡ sections_of table.now }
     {
         AddressRollback {
-            sections: Sections::of(table),
+            sections: sections(table),
         }
     }
 }
 
 impl Exclusion for AddressRollback {
-    ghost meaning = { λ e. impatient e.sections.list };
+    ghost meaning = { λ e. impatient e.sections };
 
     ghost told = { λ e n f. f ≡ e };
 
-    ghost answers = { λ e cpu armed place v. v ≡ rolls_back e.sections.list place };
+    ghost answers = { λ e cpu armed place v. v ≡ rolls_back e.sections place };
 
     ghost shaped = { Prim.search rules };
 
     ghost obeys = { Prim.search rules };
 
-    ghost says = { λ e cpu armed place v answer. rollback_says e.sections.list cpu armed place v answer };
+    ghost says = { λ e cpu armed place v answer. rollback_says e.sections cpu armed place v answer };
 
     fn section(&self, d: usize) -> Section {
-        self.sections.section(d)
+        section_at(&self.sections, d)
     }
 
     fn entered(&mut self, _cpu: usize, _d: usize) {}
@@ -50,8 +50,8 @@ impl Exclusion for AddressRollback {
 
     fn left(&mut self, _cpu: usize) {}
 
-    fn disturbed(&self, _cpu: usize, _armed: usize, place: u64) -> Verdict {
-        match self.sections.holding(place) {
+    fn disturbed(&self, standing: Standing) -> Verdict {
+        match holding(&self.sections, standing.place) {
             Some(section) => Verdict::Back(section.start),
             None => Verdict::Outside,
         }

@@ -4,26 +4,15 @@
 ghost use Rattle.exclusion_laws.specs.Laws.{AgreeOnWhen, masking_after};
 ghost use Rattle.exclusion.specs.Meaning.{NotHeldWithoutPatience, NotOutsideWhenArmed, ToldAll};
 ghost use Rattle.exclusion.specs.Ours.{abort_restarts, rolls_back};
-ghost use Rattle.exclusion.specs.declared.meaning.Notice.TheVariants.{Entered, Left, Stepped};
 ghost use Rattle.image.specs.Layout.{sections_of};
 ghost use Rattle.std.specs.Prelude.{◌≡◌};
 
 use exclusion::abort::AbortRestart;
 use exclusion::grace::Grace;
 use exclusion::masking::Masking;
-use exclusion::meaning::{Exclusion, Notice, Verdict};
+pub use exclusion::meaning::tell;
+use exclusion::meaning::{Exclusion, Notice, Standing, Verdict};
 use exclusion::rollback::AddressRollback;
-
-/// Tells an exclusion one thing.
-pub fn tell<E: Exclusion>(exclusion: &mut E, notice: Notice)
-    ensures told_so { E.Exclusion.told exclusion.old notice exclusion.new }
-{
-    match notice {
-        Notice::Entered { cpu, d } => exclusion.entered(cpu, d),
-        Notice::Stepped { cpu } => exclusion.stepped(cpu),
-        Notice::Left { cpu } => exclusion.left(cpu),
-    }
-}
 
 /// Tells an exclusion one thing after another.
 fn tell_all<E: Exclusion>(exclusion: &mut E, notices: &[Notice])
@@ -34,55 +23,40 @@ fn tell_all<E: Exclusion>(exclusion: &mut E, notices: &[Notice])
     }
 }
 
-/// Puts a question to an exclusion.
-fn put<E: Exclusion>(exclusion: &E, cpu: usize, armed: usize, place: u64) -> Verdict
-    ensures as_it_answers { E.Exclusion.answers exclusion.now cpu armed place result }
-{
-    exclusion.disturbed(cpu, armed, place)
-}
-
 /// Asks an exclusion. At a question that is not free, no exclusion says Outside in the armed section, and none says Held
 /// without patience, so one that never lets go has not the meaning.
-pub fn ask<E: Exclusion>(exclusion: &E, cpu: usize, armed: usize, place: u64) -> Verdict
-    ensures as_it_answers { E.Exclusion.answers exclusion.now cpu armed place result }
-    ensures never_outside_in_the_armed_section { NotOutsideWhenArmed (E.Exclusion.meaning exclusion.now) armed place result }
-    ensures never_held_without_patience { NotHeldWithoutPatience (E.Exclusion.meaning exclusion.now) cpu armed place result }
+pub fn ask<E: Exclusion>(exclusion: &E, standing: Standing) -> Verdict
+    ensures as_it_answers { E.Exclusion.answers exclusion.now standing.cpu standing.armed standing.place result }
+    ensures never_outside_in_the_armed_section { NotOutsideWhenArmed (E.Exclusion.meaning exclusion.now) standing.armed standing.place result }
+    ensures never_held_without_patience { NotHeldWithoutPatience (E.Exclusion.meaning exclusion.now) standing.cpu standing.armed standing.place result }
 {
-    put(exclusion, cpu, armed, place)
+    exclusion.disturbed(standing)
 }
 
 /// Tells an exclusion one thing after another, and then asks it.
 pub fn tell_and_ask<E: Exclusion>(
     exclusion: &mut E,
     notices: &[Notice],
-    cpu: usize,
-    armed: usize,
-    place: u64,
+    standing: Standing,
 ) -> Verdict
     ensures told_so { ToldAll E.Exclusion.told exclusion.old notices.now exclusion.new }
-    ensures as_it_answers { E.Exclusion.answers exclusion.new cpu armed place result }
+    ensures as_it_answers { E.Exclusion.answers exclusion.new standing.cpu standing.armed standing.place result }
 {
     tell_all(exclusion, notices);
-    put(exclusion, cpu, armed, place)
+    ask(exclusion, standing)
 }
 
 /// Makes both classic exclusions from one table, tells them the same things, and asks both. They agree on when a thread is
 /// sent back, and differ only in where to.
-pub fn ask_both_classic(
-    table: &[u8],
-    notices: &[Notice],
-    cpu: usize,
-    armed: usize,
-    place: u64,
-) -> (Verdict, Verdict)
-    ensures the_first_restarts_by_abort { result.0 ≡ abort_restarts (sections_of table.now) armed place }
-    ensures the_second_rolls_back { result.1 ≡ rolls_back (sections_of table.now) place }
-    ensures they_agree_on_when { AgreeOnWhen (sections_of table.now) armed place result.0 result.1 }
+pub fn ask_both_classic(table: &[u8], notices: &[Notice], standing: Standing) -> (Verdict, Verdict)
+    ensures the_first_restarts_by_abort { result.0 ≡ abort_restarts (sections_of table.now) standing.armed standing.place }
+    ensures the_second_rolls_back { result.1 ≡ rolls_back (sections_of table.now) standing.place }
+    ensures they_agree_on_when { AgreeOnWhen (sections_of table.now) standing.armed standing.place result.0 result.1 }
 {
     let mut abort = AbortRestart::new(table);
     let mut rollback = AddressRollback::new(table);
-    let by_abort = tell_and_ask(&mut abort, notices, cpu, armed, place);
-    let by_rollback = tell_and_ask(&mut rollback, notices, cpu, armed, place);
+    let by_abort = tell_and_ask(&mut abort, notices, standing);
+    let by_rollback = tell_and_ask(&mut rollback, notices, standing);
     (by_abort, by_rollback)
 }
 
@@ -91,29 +65,21 @@ pub fn ask_both_classic(
 pub fn ask_grace_zero<E: Exclusion>(
     lower: E,
     notices: &[Notice],
-    cpu: usize,
-    armed: usize,
-    place: u64,
+    standing: Standing,
 ) -> (Verdict, Grace<E>)
     ensures the_lower_is_told_the_same { ToldAll E.Exclusion.told lower notices.now result.1.lower }
-    ensures as_the_lower_answers { E.Exclusion.answers result.1.lower cpu armed place result.0 }
+    ensures as_the_lower_answers { E.Exclusion.answers result.1.lower standing.cpu standing.armed standing.place result.0 }
 {
     let mut layer = Grace::new(0, lower);
-    let verdict = tell_and_ask(&mut layer, notices, cpu, armed, place);
+    let verdict = tell_and_ask(&mut layer, notices, standing);
     (verdict, layer)
 }
 
 /// Makes masking from a table, tells it things and asks it. What generic code promises of any exclusion determines its
 /// answer here.
-pub fn ask_masking(
-    table: &[u8],
-    notices: &[Notice],
-    cpu: usize,
-    armed: usize,
-    place: u64,
-) -> Verdict
-    ensures determined { result ≡ masking_after (sections_of table.now) notices.now cpu place }
+pub fn ask_masking(table: &[u8], notices: &[Notice], standing: Standing) -> Verdict
+    ensures determined { result ≡ masking_after (sections_of table.now) notices.now standing.cpu standing.place }
 {
     let mut masking = Masking::new(table);
-    tell_and_ask(&mut masking, notices, cpu, armed, place)
+    tell_and_ask(&mut masking, notices, standing)
 }

@@ -3,7 +3,7 @@ use calls::{Call, RawOperation};
 use exclusion::abort::AbortRestart;
 use exclusion::grace::Grace;
 use exclusion::masking::Masking;
-use exclusion::meaning::{Exclusion, Notice, Verdict};
+use exclusion::meaning::{Exclusion, Notice, Standing, Verdict};
 use exclusion::rollback::AddressRollback;
 use exclusion_laws::{ask, ask_both_classic, ask_masking};
 use faults::{Fault, Refusal};
@@ -438,9 +438,18 @@ fn letters_of_calls(rt: HostRuntime) {
     );
 }
 
+/// At a place on a CPU with descriptor 1 armed.
+fn armed_on(cpu: usize, place: u64) -> Standing {
+    Standing {
+        cpu,
+        armed: 1,
+        place,
+    }
+}
+
 /// What an exclusion says with descriptor 1 armed on CPU 0.
 fn said<E: Exclusion>(rt: &impl Abort, exclusion: &E, place: u64, verdict: Verdict) {
-    assert_eq!(rt; ask(exclusion, 0, 1, place), verdict);
+    assert_eq!(rt; ask(exclusion, armed_on(0, place)), verdict);
 }
 
 #[test]
@@ -467,7 +476,7 @@ fn masking_waits_for_three_instructions_of_add(rt: HostRuntime) {
     said(&rt, &masking, 4104, Verdict::Back(4100));
     masking.entered(0, 1);
     said(&rt, &masking, 4104, Verdict::Held);
-    assert_eq!(rt; ask(&masking, 1, 1, 4104), Verdict::Back(4100));
+    assert_eq!(rt; ask(&masking, armed_on(1, 4104)), Verdict::Back(4100));
     masking.stepped(0);
     masking.stepped(0);
     said(&rt, &masking, 4112, Verdict::Held);
@@ -480,7 +489,7 @@ fn masking_waits_for_three_instructions_of_add(rt: HostRuntime) {
     masking.left(0);
     said(&rt, &masking, 4112, Verdict::Back(4100));
     masking.entered(8, 3);
-    assert_eq!(rt; ask(&masking, 8, 1, 4112), Verdict::Back(4100));
+    assert_eq!(rt; ask(&masking, armed_on(8, 4112)), Verdict::Back(4100));
 }
 
 #[test]
@@ -495,9 +504,9 @@ fn grace_one_over_abort_holds_for_one_instruction(rt: HostRuntime) {
     over_masking.entered(7, 1);
     over_masking.stepped(7);
     over_masking.stepped(7);
-    assert_eq!(rt; ask(&over_masking, 7, 1, 4112), Verdict::Held);
+    assert_eq!(rt; ask(&over_masking, armed_on(7, 4112)), Verdict::Held);
     over_masking.left(7);
-    assert_eq!(rt; ask(&over_masking, 7, 1, 4112), Verdict::Back(4100));
+    assert_eq!(rt; ask(&over_masking, armed_on(7, 4112)), Verdict::Back(4100));
 }
 
 #[test]
@@ -525,9 +534,15 @@ fn generic_code_keeps_what_an_exclusion_answers(rt: HostRuntime) {
         Notice::Stepped { cpu: 0 },
         Notice::Entered { cpu: 3, d: 2 },
     ];
-    assert_eq!(rt; ask_masking(&TABLE, &told, 0, 1, 4108), Verdict::Held);
-    assert_eq!(rt; ask_masking(&TABLE, &told, 1, 1, 4108), Verdict::Back(4100));
-    let both = ask_both_classic(&TABLE, &told, 0, 1, 4108);
+    assert_eq!(rt;
+        ask_masking(&TABLE, &told, armed_on(0, 4108)),
+        Verdict::Held
+    );
+    assert_eq!(rt;
+        ask_masking(&TABLE, &told, armed_on(1, 4108)),
+        Verdict::Back(4100)
+    );
+    let both = ask_both_classic(&TABLE, &told, armed_on(0, 4108));
     assert_eq!(rt; both.0, Verdict::Back(4120));
     assert_eq!(rt; both.1, Verdict::Back(4100));
 }

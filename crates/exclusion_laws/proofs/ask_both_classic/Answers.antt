@@ -9,16 +9,16 @@ use Rattle.exclusion_laws.proofs.ask_both_classic.Goals as goal
 pub returns : goal.returns
 returns c =
     let sections = sections_of c.args.table.now in
-    let armed = c.args.armed in
-    let place = c.args.place in
+    let armed = c.args.standing.armed in
+    let place = c.args.standing.place in
     let one = c.tell_and_ask-by_abort in
     let other = c.tell_and_ask-by_rollback in
     let first : one.result ≡ abort_restarts sections armed place =
-    one.ensures.as_it_answers ∙ ap (λ e. abort_restarts e.sections.list armed place) (unmoved _ c.args.notices.now _ one.ensures.told_so) ∙ ap (λ s. abort_restarts s armed place) c.new-abort.ensures.made_from_the_table in
+    one.ensures.as_it_answers ∙ ap (λ e. abort_restarts e.sections armed place) (unmoved _ c.args.notices.now _ one.ensures.told_so) ∙ ap (λ s. abort_restarts s armed place) c.new-abort.ensures.made_from_the_table in
     let second : other.result ≡ rolls_back sections place =
-    other.ensures.as_it_answers ∙ ap (λ e. rolls_back e.sections.list place) (unmoved _ c.args.notices.now _ other.ensures.told_so) ∙ ap (λ s. rolls_back s place) c.new-rollback.ensures.made_from_the_table in
+    other.ensures.as_it_answers ∙ ap (λ e. rolls_back e.sections place) (unmoved _ c.args.notices.now _ other.ensures.told_so) ∙ ap (λ s. rolls_back s place) c.new-rollback.ensures.made_from_the_table in
     record {
       the_first_restarts_by_abort = first;
       the_second_rolls_back = second;
-      they_agree_on_when = agree sections c.args.cpu armed place one.result other.result (abort_says sections c.args.cpu armed place one.result first) (rollback_says sections c.args.cpu armed place other.result second);
+      they_agree_on_when = agree sections c.args.standing.cpu armed place one.result other.result (abort_says sections c.args.standing.cpu armed place one.result first) (rollback_says sections c.args.standing.cpu armed place other.result second);
     }

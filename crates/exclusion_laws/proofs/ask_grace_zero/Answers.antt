@@ -11,5 +11,5 @@ returns g c =
     let answer = asked.ensures.as_it_answers in
     record {
       the_lower_is_told_the_same = subst (λ l. ToldAll g.E.Exclusion.told l c.args.notices.now asked.new.exclusion.lower) new.ensures.over_the_lower both.0;
-      as_the_lower_answers = subst (λ v. g.E.Exclusion.answers asked.new.exclusion.lower c.args.cpu c.args.armed c.args.place v) (sym (no_wait _ _ answer.0 (both.1 c.args.cpu) answer.2)) answer.1;
+      as_the_lower_answers = subst (λ v. g.E.Exclusion.answers asked.new.exclusion.lower c.args.standing.cpu c.args.standing.armed c.args.standing.place v) (sym (no_wait _ _ answer.0 (both.1 c.args.standing.cpu) answer.2)) answer.1;
     }
