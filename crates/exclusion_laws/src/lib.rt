@@ -25,6 +25,7 @@ fn tell_all<E: Exclusion>(exclusion: &mut E, notices: &[Notice])
 
 /// Asks an exclusion. At a question that is not free, no exclusion says Outside in the armed section, and none says Held
 /// without patience, so one that never lets go has not the meaning.
+#[tactic(auto, using(crate::proofs::Shut::never_outside, crate::proofs::Shut::never_held))]
 pub fn ask<E: Exclusion>(exclusion: &E, standing: Standing) -> Verdict
     ensures as_it_answers { E.Exclusion.answers exclusion.now standing.cpu standing.armed standing.place result }
     ensures never_outside_in_the_armed_section { NotOutsideWhenArmed (E.Exclusion.meaning exclusion.now) standing.armed standing.place result }
