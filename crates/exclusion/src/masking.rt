@@ -22,8 +22,8 @@ pub struct Masking {
 impl Masking {
     /// Made from a table of any bytes, with no patience.
     pub fn new(table: &[u8]) -> Masking
-        ensures made_from_the_table { result.rollback.sections ≡ sections_of table.now }
-        ensures without_patience { result.patience.remaining ≡ replicate 8 0 }
+        ensures made_from_the_table { result.rollback ≡ sections_of table.now }
+        ensures without_patience { result.patience ≡ replicate 8 0 }
     {
         Masking {
             rollback: AddressRollback::new(table),
@@ -33,22 +33,22 @@ impl Masking {
 }
 
 impl Exclusion for Masking {
-    ghost meaning = { λ e. layered (impatient e.rollback.sections) e.patience.remaining };
+    ghost meaning = { λ e. layered (impatient e.rollback) e.patience };
 
-    ghost told = { λ e n f. (f.rollback ≡ e.rollback) × (f.patience.remaining ≡ counted (masking_choice e.rollback.sections) e.patience.remaining n) };
+    ghost told = { λ e n f. (f.rollback ≡ e.rollback) × (f.patience ≡ counted (masking_choice e.rollback) e.patience n) };
 
-    ghost answers = { λ e cpu armed place v. v ≡ held_while (patience_at e.patience.remaining cpu) (rolls_back e.rollback.sections place) };
+    ghost answers = { λ e cpu armed place v. v ≡ held_while (patience_at e.patience cpu) (rolls_back e.rollback place) };
 
     ghost shaped = { Prim.search rules };
 
     ghost obeys = { λ e n f told.
-        let sections = e.rollback.sections in
-        let made = layered_obeys (impatient sections) (impatient sections) e.patience.remaining (masking_choice sections) n (impatient_obeys sections n) in
+        let sections = e.rollback in
+        let made = layered_obeys (impatient sections) (impatient sections) e.patience (masking_choice sections) n (impatient_obeys sections n) in
         rw (told.0, told.1) made };
 
     ghost says = { λ e cpu armed place v answer.
-        let sections = e.rollback.sections in
-        rw answer (layered_says (impatient sections) e.patience.remaining cpu armed place (rolls_back sections place) (rollback_says sections cpu armed place (rolls_back sections place) refl)) };
+        let sections = e.rollback in
+        rw answer (layered_says (impatient sections) e.patience cpu armed place (rolls_back sections place) (rollback_says sections cpu armed place (rolls_back sections place) refl)) };
 
     fn section(&self, d: usize) -> Section {
         self.rollback.section(d)

@@ -15,6 +15,7 @@ use exclusion::meaning::{Exclusion, Notice, Standing, Verdict};
 use exclusion::rollback::AddressRollback;
 
 /// Tells an exclusion one thing after another.
+#[tactic(auto, using(crate::proofs::Told::told_more, crate::proofs::Told::told_whole))]
 fn tell_all<E: Exclusion>(exclusion: &mut E, notices: &[Notice])
     ensures told_so { ToldAll E.Exclusion.told exclusion.old notices.now exclusion.new }
 {
