@@ -3,12 +3,14 @@ ghost use Rattle.std.specs.Prelude.{◌≡◌, ℕ, replicate};
 ghost use Rattle.exclusion.specs.Ours.{grace_choice};
 ghost use Rattle.exclusion.specs.Parts.{counted, held_while, layered, patience_at};
 ghost use Rattle.exclusion.specs.declared.meaning.Verdict.{Verdict};
+ghost use Rattle.exclusion.specs.Layers.{Graced};
 ghost use Rattle.exclusion.specs.Counting.{layered_obeys, layered_says};
 ghost use Rattle.std.proofs.Common.{rules};
 
 use super::meaning::{Exclusion, Standing, Verdict};
 use super::parts::{Patience, held_while};
 use image::layout::Section;
+use std::marker::Model;
 
 /// Grace over a lower exclusion, which it holds: chooses the larger of its own number and the lower choice, and takes the
 /// lower way back.
@@ -17,6 +19,12 @@ pub struct Grace<E: Exclusion> {
     lower: E,
     grace: u8,
     patience: Patience,
+}
+
+impl<E: Exclusion> Model for Grace<E> {
+    ghost Value = { Graced E };
+
+    ghost view = { λ layer. record { lower = layer.lower; grace = layer.grace; patience = layer.patience } };
 }
 
 impl<E: Exclusion> Grace<E> {

@@ -26,6 +26,7 @@ fn has_number(text: &[u32], address: u64, number: u32) -> bool
     word_at(text, address) == Some(number)
 }
 
+// stays: tried as `all` over the numbered words, and the proof didn't close.
 /// Whether the words lie in the text, one after the other from an address on.
 #[tactic(auto, using(crate::proofs::Standing::next_word, crate::proofs::Standing::wrong_word, crate::proofs::Standing::no_more_words))]
 fn has_words(text: &[u32], start: u64, words: &[Word]) -> bool

@@ -1,4 +1,4 @@
-use Rattle.std.proofs.Common.{◌≡◌, ap, ◌∙◌}
+use Rattle.std.proofs.Common.{◌≡◌}
 use Rattle.image.specs.Layout.{sections_of}
 use Rattle.exclusion.specs.Ours.{abort_restarts, rolls_back}
 use Rattle.exclusion_laws.proofs.Told.{unmoved}
