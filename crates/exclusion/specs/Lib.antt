@@ -3,3 +3,4 @@ pub mod Parts
 pub mod Ours
 pub mod Counting
 pub mod Walking
+pub mod Layers

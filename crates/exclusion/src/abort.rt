@@ -1,12 +1,14 @@
 //! Abort restart: the way of Linux.
 ghost use Rattle.exclusion.specs.Ours.{abort_restarts, impatient};
 ghost use Rattle.image.specs.Layout.{sections_of};
-ghost use Rattle.std.specs.Prelude.{◌≡◌};
+ghost use Rattle.std.specs.Prelude.{◌≡◌, List};
+ghost use Rattle.image.specs.declared.layout.Section.{Section};
 ghost use Rattle.std.proofs.Common.{rules};
 
 use super::meaning::{Exclusion, Standing, Verdict};
 use super::sections::section_at;
 use image::layout::{Section, sections};
+use std::marker::Model;
 
 /// Abort restart, as Linux has it: looks only at the armed section and goes back to its abort.
 #[derive(Clone, Copy)]
@@ -14,10 +16,18 @@ pub struct AbortRestart {
     sections: [Section; 5],
 }
 
+impl Model for AbortRestart {
+    ghost Value = { List Section };
+
+    ghost view = { λ exclusion. exclusion.sections };
+
+    ghost inverse = { λ sections. record { sections = sections } };
+}
+
 impl AbortRestart {
     /// Made from a table of any bytes.
     pub fn new(table: &[u8]) -> AbortRestart
-        ensures made_from_the_table { result.sections ≡ sections_of table.now }
+        ensures made_from_the_table { result ≡ sections_of table.now }
     {
         AbortRestart {
             sections: sections(table),
@@ -26,11 +36,11 @@ impl AbortRestart {
 }
 
 impl Exclusion for AbortRestart {
-    ghost meaning = { λ e. impatient e.sections };
+    ghost meaning = { impatient };
 
     ghost told = { λ e n f. f ≡ e };
 
-    ghost answers = { λ e cpu armed place v. v ≡ abort_restarts e.sections armed place };
+    ghost answers = { λ e cpu armed place v. v ≡ abort_restarts e armed place };
 
     ghost shaped = { Prim.search rules };
 

@@ -3,6 +3,7 @@ ghost use Rattle.std.specs.Prelude.{◌≡◌, ℕ, replicate, refl};
 ghost use Rattle.exclusion.specs.Ours.{impatient, masking_choice, rolls_back};
 ghost use Rattle.exclusion.specs.Parts.{counted, held_while, layered, patience_at};
 ghost use Rattle.image.specs.Layout.{sections_of};
+ghost use Rattle.exclusion.specs.Layers.{Masked};
 ghost use Rattle.exclusion.specs.Counting.{impatient_obeys, layered_obeys, layered_says};
 ghost use Rattle.exclusion.specs.Walking.{rollback_says};
 ghost use Rattle.std.proofs.Common.{rules};
@@ -11,6 +12,7 @@ use super::meaning::{Exclusion, Standing, Verdict};
 use super::parts::{Patience, held_while};
 use super::rollback::AddressRollback;
 use image::layout::Section;
+use std::marker::Model;
 
 /// Masking: rollback that chooses as patience the instructions that are left in the section.
 #[derive(Clone, Copy)]
@@ -19,11 +21,19 @@ pub struct Masking {
     patience: Patience,
 }
 
+impl Model for Masking {
+    ghost Value = { Masked };
+
+    ghost view = { λ masking. record { sections = masking.rollback; patience = masking.patience } };
+
+    ghost inverse = { λ masked. record { rollback = masked.sections; patience = masked.patience } };
+}
+
 impl Masking {
     /// Made from a table of any bytes, with no patience.
     pub fn new(table: &[u8]) -> Masking
-        ensures made_from_the_table { result.rollback.sections ≡ sections_of table.now }
-        ensures without_patience { result.patience.remaining ≡ replicate 8 0 }
+        ensures made_from_the_table { result.sections ≡ sections_of table.now }
+        ensures without_patience { result.patience ≡ replicate 8 0 }
     {
         Masking {
             rollback: AddressRollback::new(table),
@@ -33,22 +43,22 @@ impl Masking {
 }
 
 impl Exclusion for Masking {
-    ghost meaning = { λ e. layered (impatient e.rollback.sections) e.patience.remaining };
+    ghost meaning = { λ e. layered (impatient e.sections) e.patience };
 
-    ghost told = { λ e n f. (f.rollback ≡ e.rollback) × (f.patience.remaining ≡ counted (masking_choice e.rollback.sections) e.patience.remaining n) };
+    ghost told = { λ e n f. (f.sections ≡ e.sections) × (f.patience ≡ counted (masking_choice e.sections) e.patience n) };
 
-    ghost answers = { λ e cpu armed place v. v ≡ held_while (patience_at e.patience.remaining cpu) (rolls_back e.rollback.sections place) };
+    ghost answers = { λ e cpu armed place v. v ≡ held_while (patience_at e.patience cpu) (rolls_back e.sections place) };
 
     ghost shaped = { Prim.search rules };
 
     ghost obeys = { λ e n f told.
-        let sections = e.rollback.sections in
-        let made = layered_obeys (impatient sections) (impatient sections) e.patience.remaining (masking_choice sections) n (impatient_obeys sections n) in
+        let sections = e.sections in
+        let made = layered_obeys (impatient sections) (impatient sections) e.patience (masking_choice sections) n (impatient_obeys sections n) in
         rw (told.0, told.1) made };
 
     ghost says = { λ e cpu armed place v answer.
-        let sections = e.rollback.sections in
-        rw answer (layered_says (impatient sections) e.patience.remaining cpu armed place (rolls_back sections place) (rollback_says sections cpu armed place (rolls_back sections place) refl)) };
+        let sections = e.sections in
+        rw answer (layered_says (impatient sections) e.patience cpu armed place (rolls_back sections place) (rollback_says sections cpu armed place (rolls_back sections place) refl)) };
 
     fn section(&self, d: usize) -> Section {
         self.rollback.section(d)

@@ -55,6 +55,7 @@ pub trait Exclusion {
     fn section(&self, d: usize) -> Section
         ensures of_the_meaning { result ≡ (meaning self.now).section d };
 
+    // stays: without a body for those that stay as they are; tried, and the proof didn't close, as a body is proved for all at once.
     /// A thread on a CPU has entered section d.
     fn entered(&mut self, cpu: usize, d: usize)
         ensures told_so { told self.old (Entered cpu d) self.new };

@@ -15,6 +15,7 @@ use exclusion::meaning::{Exclusion, Notice, Standing, Verdict};
 use exclusion::rollback::AddressRollback;
 
 /// Tells an exclusion one thing after another.
+#[tactic(auto, using(crate::proofs::Told::told_more, crate::proofs::Told::told_whole))]
 fn tell_all<E: Exclusion>(exclusion: &mut E, notices: &[Notice])
     ensures told_so { ToldAll E.Exclusion.told exclusion.old notices.now exclusion.new }
 {
@@ -25,6 +26,7 @@ fn tell_all<E: Exclusion>(exclusion: &mut E, notices: &[Notice])
 
 /// Asks an exclusion. At a question that is not free, no exclusion says Outside in the armed section, and none says Held
 /// without patience, so one that never lets go has not the meaning.
+#[tactic(auto, using(crate::proofs::Shut::never_outside, crate::proofs::Shut::never_held))]
 pub fn ask<E: Exclusion>(exclusion: &E, standing: Standing) -> Verdict
     ensures as_it_answers { E.Exclusion.answers exclusion.now standing.cpu standing.armed standing.place result }
     ensures never_outside_in_the_armed_section { NotOutsideWhenArmed (E.Exclusion.meaning exclusion.now) standing.armed standing.place result }

@@ -12,7 +12,7 @@ use Rattle.words.specs.declared.Kind.TheVariants.{Add, Push, Pop, Put, Take}
 use Rattle.words.specs.Words.{kinds}
 use Rattle.image.specs.Layout.{Inside, inside, descriptor_of, sections_of}
 use Rattle.image.specs.Checks.{Check, first_failing, between, size_checks, table_check, text_check, descriptor_checks, all_descriptor_checks, image_checks, checked_image}
-use Rattle.image.specs.Accepted.{WellDescribed, Acceptable, AcceptedExactly, FirstThatFails}
+use Rattle.image.specs.Accepted.{WellDescribed, Acceptable, AcceptedExactly, FirstOf, FirstThatFails}
 use Rattle.image.proofs.Checking.{ok_no_err, passed}
 use Rattle.image.proofs.Lying.{lies, is_word_lying, routine_stands, standing_routine, is_inside, inside_is}
 
@@ -163,3 +163,6 @@ module _ (sizes : Sizes) (table text : List ℕ) (signature : ℕ) where
 
   pub fails_first : (r : Result (List Section) Fault) → r ≡ checked_image sizes table text signature → FirstThatFails (image_checks sizes table text signature) r
   fails_first r e = rw e (first_that_fails (sections_of table) (image_checks sizes table text signature))
+
+  pub fails_at : (fault : Fault) → Err fault ≡ checked_image sizes table text signature → FirstOf (image_checks sizes table text signature) fault
+  fails_at fault e = fails_first (Err fault) e

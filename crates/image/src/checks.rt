@@ -26,7 +26,9 @@ fn has_number(text: &[u32], address: u64, number: u32) -> bool
     word_at(text, address) == Some(number)
 }
 
+// stays: tried as `all` over the numbered words, and the proof didn't close.
 /// Whether the words lie in the text, one after the other from an address on.
+#[tactic(auto, using(crate::proofs::Standing::next_word, crate::proofs::Standing::wrong_word, crate::proofs::Standing::no_more_words))]
 fn has_words(text: &[u32], start: u64, words: &[Word]) -> bool
     requires { (start < 2 ^ 32) × (length words.now ≤ 16) }
     ensures defined { result ≡ has_words text.now start words.now }
@@ -85,6 +87,7 @@ pub struct JobImage<'a> {
 
 impl JobImage<'_> {
     /// Checks the image: its five sections where every rule holds, and else the fault of the first rule that does not.
+    #[tactic(auto, using(crate::proofs::Accepting::fails_first, crate::proofs::Accepting::fails_at))]
     pub fn check(&self) -> Result<[Section; 5], Fault>
         ensures defined { result ≡ checked_image self.now.sizes self.now.table.now self.now.text.now self.now.signature }
         ensures accepted_exactly_if_every_rule_holds { AcceptedExactly self.now.sizes self.now.table.now self.now.text.now self.now.signature result }
@@ -101,6 +104,7 @@ impl JobImage<'_> {
     }
 
     /// Checks the descriptors of operations, in their order: the first fault, if there is one.
+    #[tactic(auto, using(crate::proofs::Checking::next_descriptor, crate::proofs::Checking::no_more_descriptors))]
     fn check_descriptors(&self, kinds: &[Kind]) -> Result<(), Fault>
         ensures defined { result ≡ all_pass (all_descriptor_checks self.now.table.now self.now.text.now self.now.signature kinds.now) }
     {

@@ -1,4 +1,4 @@
-use Rattle.std.proofs.Common.{◌≡◌, ap, ◌∙◌}
+use Rattle.std.proofs.Common.{◌≡◌}
 use Rattle.image.specs.Layout.{sections_of}
 use Rattle.exclusion.specs.Ours.{abort_restarts, rolls_back}
 use Rattle.exclusion_laws.proofs.Told.{unmoved}
@@ -13,10 +13,10 @@ returns c =
     let place = c.args.standing.place in
     let one = c.tell_and_ask-by_abort in
     let other = c.tell_and_ask-by_rollback in
-    let first : one.result ≡ abort_restarts sections armed place =
-    one.ensures.as_it_answers ∙ ap (λ e. abort_restarts e.sections armed place) (unmoved _ c.args.notices.now _ one.ensures.told_so) ∙ ap (λ s. abort_restarts s armed place) c.new-abort.ensures.made_from_the_table in
-    let second : other.result ≡ rolls_back sections place =
-    other.ensures.as_it_answers ∙ ap (λ e. rolls_back e.sections place) (unmoved _ c.args.notices.now _ other.ensures.told_so) ∙ ap (λ s. rolls_back s place) c.new-rollback.ensures.made_from_the_table in
+    let one_stays = unmoved _ c.args.notices.now _ one.ensures.told_so in
+    let other_stays = unmoved _ c.args.notices.now _ other.ensures.told_so in
+    let first : one.result ≡ abort_restarts sections armed place = cc in
+    let second : other.result ≡ rolls_back sections place = cc in
     record {
       the_first_restarts_by_abort = first;
       the_second_rolls_back = second;

@@ -7,7 +7,7 @@ pub returns : goal.returns
 returns g c =
     let new = c.new-layer in
     let asked = c.tell_and_ask-verdict in
-    let both = grace_zero (λ e. e.lower) (λ e. e.grace) (λ e. e.patience.remaining) g.E.Exclusion.told new.result c.args.notices.now asked.new.exclusion new.ensures.of_the_number (fresh new.result.patience.remaining new.ensures.without_patience) asked.ensures.told_so in
+    let both = grace_zero (λ e. e.lower) (λ e. e.grace) (λ e. e.patience) g.E.Exclusion.told new.result c.args.notices.now asked.new.exclusion new.ensures.of_the_number (fresh new.result.patience new.ensures.without_patience) asked.ensures.told_so in
     let answer = asked.ensures.as_it_answers in
     record {
       the_lower_is_told_the_same = subst (λ l. ToldAll g.E.Exclusion.told l c.args.notices.now asked.new.exclusion.lower) new.ensures.over_the_lower both.0;

@@ -18,8 +18,8 @@ pub returns : goal.returns
 returns c =
     let new = c.new-masking in
     let asked = c.tell_and_ask in
-    let both = counted_on (λ e. e.rollback) (λ e. e.patience.remaining) (λ r. masking_choice r.sections) new.result c.args.notices.now asked.new.exclusion asked.ensures.told_so in
+    let both = counted_on (λ e. e.sections) (λ e. e.patience) masking_choice new.result c.args.notices.now asked.new.exclusion asked.ensures.told_so in
     record {
-      determined = determined new.result.rollback.sections _ asked.new.exclusion.rollback.sections new.result.patience.remaining asked.new.exclusion.patience.remaining c.args.notices.now
-          c.args.standing.cpu c.args.standing.place asked.result new.ensures.made_from_the_table new.ensures.without_patience (ap (λ r. r.sections) both.0) both.1 asked.ensures.as_it_answers;
+      determined = determined new.result.sections _ asked.new.exclusion.sections new.result.patience asked.new.exclusion.patience c.args.notices.now
+          c.args.standing.cpu c.args.standing.place asked.result new.ensures.made_from_the_table new.ensures.without_patience both.0 both.1 asked.ensures.as_it_answers;
     }

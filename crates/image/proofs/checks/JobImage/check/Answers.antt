@@ -1,4 +1,4 @@
-use Rattle.std.proofs.Common.{List, Err, Ok, Result, ap, ◌∙◌, rules}
+use Rattle.std.proofs.Common.{List, Err, Ok, Result, ap, ◌∙◌}
 use Rattle.std.proofs.lemmas.Result.{err_from_is_err_and}
 use Rattle.faults.specs.declared.Fault.{Fault}
 use Rattle.image.specs.declared.layout.Section.{Section}
@@ -7,29 +7,14 @@ use Rattle.image.proofs.Checking.{accepted_image, refused_image}
 use Rattle.image.proofs.Laying.{laid_out_if_accepted}
 use Rattle.image.proofs.checks.JobImage.check.Goals as goal
 
-pub returns-in_err-check_sizes-clause-else_refused_by_the_first_that_fails : goal.returns-in_err-check_sizes-clause-else_refused_by_the_first_that_fails
-returns-in_err-check_sizes-clause-else_refused_by_the_first_that_fails c =
-    let image = c.args.self.now in
-    fails_first image.sizes image.table.now image.text.now image.signature c.from_residual.result (search rules)
-
-pub returns-then-self-ne-TABLE_LENGTH-clause-else_refused_by_the_first_that_fails : goal.returns-then-self-ne-TABLE_LENGTH-clause-else_refused_by_the_first_that_fails
-returns-then-self-ne-TABLE_LENGTH-clause-else_refused_by_the_first_that_fails c =
-    let image = c.args.self.now in
-    fails_first image.sizes image.table.now image.text.now image.signature (Err c.at.result) (search rules)
-
-pub returns-in_err-accept_text_length-clause-else_refused_by_the_first_that_fails : goal.returns-in_err-accept_text_length-clause-else_refused_by_the_first_that_fails
-returns-in_err-accept_text_length-clause-else_refused_by_the_first_that_fails c =
-    let image = c.args.self.now in
-    fails_first image.sizes image.table.now image.text.now image.signature c.from_residual-in_err-accept_text_length.result (search rules)
-
 pub returns-in_err-check_descriptors : goal.returns-in_err-check_descriptors
 returns-in_err-check_descriptors c =
     let image = c.args.self.now in
     let residual = c.from_residual-in_err-check_descriptors in
     let p = err_from_is_err_and residual.result residual.ensures.1 in
     let defined = p.1 ∙ ap Err p.2
-        ∙ refused_image image.sizes image.table.now image.text.now image.signature _ _ _ _ c.in_ok-check_sizes.ensures.defined c.if-self-ne-TABLE_LENGTH.false
-        c.in_ok-accept_text_length.ensures.defined c.all.ensures.listed c.in_err-check_descriptors.ensures.defined in
+    ∙ refused_image image.sizes image.table.now image.text.now image.signature _ _ _ _ c.in_ok-check_sizes.ensures.defined c.if-self-ne-TABLE_LENGTH.false
+    c.in_ok-accept_text_length.ensures.defined c.all.ensures.listed c.in_err-check_descriptors.ensures.defined in
     let exactly = accepted_exactly image.sizes image.table.now image.text.now image.signature residual.result defined in
     record {
       defined = defined;
@@ -43,7 +28,7 @@ returns c =
     let image = c.args.self.now in
     let result : Result (List Section) Fault = Ok c.sections.result in
     let defined = accepted_image image.sizes image.table.now image.text.now image.signature _ _ _ _ _ c.in_ok-check_sizes.ensures.defined c.if-self-ne-TABLE_LENGTH.false
-        c.in_ok-accept_text_length.ensures.defined c.all.ensures.listed c.in_ok-check_descriptors.ensures.defined c.sections.ensures.defined in
+    c.in_ok-accept_text_length.ensures.defined c.all.ensures.listed c.in_ok-check_descriptors.ensures.defined c.sections.ensures.defined in
     let exactly = accepted_exactly image.sizes image.table.now image.text.now image.signature result defined in
     record {
       defined = defined;
