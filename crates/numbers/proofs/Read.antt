@@ -5,10 +5,8 @@ use Rattle.std.proofs.lemmas.List.{drop_more, drop_all}
 use Rattle.std.proofs.lemmas.Option.{slice_get_within, get_or_from_slice_get, slice_get_cases}
 use Rattle.faults.specs.declared.Refusal.TheVariants.{EndsInside, WrongSpelling}
 use Rattle.faults.specs.Numbering.{fault_at}
+use Rattle.numbers.proofs.Write.{pow7}
 use Rattle.numbers.specs.Reading.{Heard, number, breaks, wrong, more, hear, told, number_at}
-
-pub pow7 : (i : ℕ) → 2 ^ (7 * suc i) ≡ 128 * 2 ^ (7 * i)
-pow7 i = ap (λ k. 2 ^ k) (omega arith) ∙ pow-add 2 7 (7 * i)
 
 -- What bytes say, by `i` groups that say `v` and what follows them.
 abbrev pub after : ℕ → ℕ → Heard → Heard

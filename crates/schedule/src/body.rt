@@ -79,6 +79,7 @@ pub struct CallsRead {
 }
 
 /// Reads calls to the end.
+#[tactic(auto, using(crate::proofs::Calling::none_yet, crate::proofs::Calling::one_more))]
 pub fn read_calls(heap: Global, mut reader: Reader) -> Result<CallsRead, AllocError>
     ensures defined { IfOk result (λ read. record { calls = read.calls.items; fault = read.fault } ≡ calls_from (length reader.entry.bytes.now) reader.entry.bytes.now reader.entry.at) }
 {
