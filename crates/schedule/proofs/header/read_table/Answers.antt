@@ -1,4 +1,4 @@
-use Rattle.std.proofs.Common.{◌≡◌, ℕ, ◌+◌, ◌≤◌, cond, List, length, take, drop, slice_range, Ok, Err, sym, ap, ◌∙◌, arith, le-ltb, length-drop}
+use Rattle.std.proofs.Common.{◌≡◌, ℕ, ◌+◌, ◌≤◌, cond, List, length, take, drop, slice_range, Ok, Err, sym, ap, arith, le-ltb}
 use Rattle.std.proofs.lemmas.Grind.{common_steps}
 use Rattle.faults.specs.declared.Refusal.TheVariants.{EndsInside}
 use Rattle.faults.specs.Numbering.{fault_at}

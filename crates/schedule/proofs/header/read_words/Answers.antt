@@ -1,7 +1,5 @@
-use Rattle.std.proofs.Common.{◌≡◌, ◌<◌, ◌≤◌, Ok, Err, refl, ap, ◌∙◌, arith}
+use Rattle.std.proofs.Common.{Err, refl, ap, ◌∙◌}
 use Rattle.std.proofs.lemmas.Result.{err_from_is_err_and}
-use Rattle.image.specs.declared.fields.Field.TheVariants.{TextWord}
-use Rattle.schedule.specs.Reading.{field_at}
 use Rattle.schedule.proofs.Texts.{front_long, none_yet, one_more, stops, all_read}
 use Rattle.schedule.proofs.header.read_words.Goals as goal
 
