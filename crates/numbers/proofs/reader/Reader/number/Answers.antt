@@ -1,5 +1,5 @@
 use Rattle.std.proofs.Common.{◌≡◌, ◌<◌, ◌⊎◌, sym, refl, ◌∙◌, arith, inl, inr}
-use Rattle.numbers.proofs.Read.{start, gone, got, broken, misspelled, ended, next, shifted}
+use Rattle.numbers.proofs.Read.{start, unmoved, gone, got, broken, misspelled, ended, next, shifted}
 use Rattle.numbers.proofs.reader.Reader.number.Goals as goal
 use Rattle.numbers.proofs.reader.Reader.number.Goals.{else-loop-shift-test, then-loop-shift-test+in-Some+then-byte-gt1, then-byte-gt1-via-then-byte-gt1, then-byte-gt1-via-else-byte-gt1+then-byte-eq0}
 
@@ -10,7 +10,7 @@ pub returns-in_default-clause-defined : goal.returns-in_default-clause-defined
 returns-in_default-clause-defined c =
     let i = c.loop-shift.invariant in
     let e = broken _ _ _ _ _ i.so_far (gone _ _ _ _ i.same_bytes c.byte.ensures.defined c.in_default.is) in
-    cc (e, i.not_moved, c.at.ensures.placed)
+    (cc (e, c.at.ensures.placed), unmoved i.not_moved)
 
 pub overflow_add-result : goal.overflow_add-result
 overflow_add-result c =
@@ -22,8 +22,8 @@ returns-then-byte-lt128-clause-defined c =
     let i = c.loop-shift.invariant in
     let h = got _ _ _ _ _ i.same_bytes c.byte.ensures.defined c.in-Some.is in
     let s = shifted _ _ _ _ _ c.from.result i.so_far (omega arith) (λ e. omega (arith, c.if-byte-gt1.either)) in
-    rw (s.whole, c.from.ensures, c.in-Some.ensures.goes_on)
-    (sym (ended _ _ _ _ _ _ i.so_far h c.if-byte-lt128.true (λ e. omega (arith, c.if-byte-gt1.either)) (λ e. omega (arith, c.if-byte-eq0.either))))
+    let e = ended _ _ _ _ _ _ i.so_far h c.if-byte-lt128.true (λ e. omega (arith, c.if-byte-gt1.either)) (λ e. omega (arith, c.if-byte-eq0.either)) in
+    (rw (s.whole, c.from.ensures, c.in-Some.ensures.goes_on) (sym e), c.byte.ensures.same_bytes ∙ i.same_bytes)
 
 pub returns-then-byte-lt128-clause-goes_on : goal.returns-then-byte-lt128-clause-goes_on
 returns-then-byte-lt128-clause-goes_on c =
@@ -61,5 +61,5 @@ returns-clause-defined c =
             | then-byte-gt1-via-else-byte-gt1+then-byte-eq0 v ↦ inr (omega arith, omega arith)
           ] in
           let e = misspelled _ _ _ _ _ _ i.so_far h wrong in
-          cc (e, i.not_moved, c.at-2.ensures.placed)
+          (cc (e, c.at-2.ensures.placed), unmoved i.not_moved)
     ]
