@@ -5,10 +5,9 @@ use Rattle.std.proofs.lemmas.List.{drop_more, drop_all}
 use Rattle.std.proofs.lemmas.Option.{slice_get_within, get_or_from_slice_get, slice_get_cases}
 use Rattle.faults.specs.declared.Refusal.TheVariants.{EndsInside, WrongSpelling}
 use Rattle.faults.specs.Numbering.{fault_at}
+use Rattle.numbers.specs.declared.reader.Reader.{Reader}
+use Rattle.numbers.proofs.Write.{pow7}
 use Rattle.numbers.specs.Reading.{Heard, number, breaks, wrong, more, hear, told, number_at}
-
-pub pow7 : (i : ℕ) → 2 ^ (7 * suc i) ≡ 128 * 2 ^ (7 * i)
-pow7 i = ap (λ k. 2 ^ k) (omega arith) ∙ pow-add 2 7 (7 * i)
 
 -- What bytes say, by `i` groups that say `v` and what follows them.
 abbrev pub after : ℕ → ℕ → Heard → Heard
@@ -50,6 +49,10 @@ pub record SoFar (bytes : List ℕ) (first at shift value : ℕ) : Type 0 where
   pub bits : shift ≡ 7 * groups
   pub small : value < 2 ^ shift
   pub says : hear 9 (drop first bytes) ≡ after groups value (hear left (drop at bytes))
+
+-- A reader that has not moved has the same bytes.
+pub unmoved : {here there : Reader} → here ≡ there → here.bytes.now ≡ there.bytes.now
+unmoved e = ap (λ (r : Reader). r.bytes.now) e
 
 pub start : (bytes : List ℕ) (first : ℕ) → SoFar bytes first first 0 0
 start bytes first = record { groups = 0; left = 9; nine = refl; place = omega arith; bits = refl; small = omega arith; says = refl }

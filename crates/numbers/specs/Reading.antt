@@ -3,6 +3,7 @@ use Rattle.std.specs.Prelude.{◌≡◌, ℕ, zero, suc, ◌+◌, ◌-◌, ◌*�
 use Rattle.faults.specs.declared.Fault.{Fault}
 use Rattle.faults.specs.declared.Refusal.TheVariants.{NoRoom, EndsInside, WrongSpelling}
 use Rattle.faults.specs.Numbering.{fault_at}
+use Rattle.numbers.specs.declared.reader.Reader.{Reader}
 use Rattle.numbers.specs.Spelling.{Spells, spelling}
 
 -- Bytes that begin with the spelling of a number.
@@ -51,6 +52,11 @@ number_at bytes first = told first (hear 9 (drop first bytes))
 abbrev pub with_end : {X : Type 0} → Result X Fault → ℕ → Result (X × ℕ) Fault
 with_end (Ok x) at = Ok (x, at)
 with_end (Err fault) at = Err fault
+
+-- A part of the bytes that begins where a reader stood was read: the answer is the part's, the reader stands behind it, and its
+-- bytes are the same.
+abbrev pub ReadsAs : {X : Type 0} → (List ℕ → ℕ → Result (X × ℕ) Fault) → Reader → Result X Fault → Reader → Type 0
+ReadsAs part reader result reader' = (with_end result reader'.at ≡ part reader.bytes.now reader.at) × (reader'.bytes.now ≡ reader.bytes.now)
 
 -- What a number written alone leaves: its spelling at the front of the buffer and the rest as it was, or, where the spelling
 -- does not fit, the whole buffer as it was.

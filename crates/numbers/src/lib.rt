@@ -2,7 +2,7 @@
 //! 2^64 and has one spelling, the shortest.
 #![tactic(auto)]
 
-ghost use Rattle.std.specs.Prelude.{◌≡◌, ℕ, ◌+◌, ◌<◌, ◌≤◌, length, IfOk};
+ghost use Rattle.std.specs.Prelude.{◌≡◌, ℕ, ◌≤◌, length};
 ghost use Rattle.numbers.specs.Laws.{OneNumber, OneSpelling, ReaderAnswersWhatIsSpelled, ReadsBack, WrittenAlone, WrittenSpells};
 ghost use Rattle.numbers.specs.Reading.{Written};
 ghost use Rattle.numbers.specs.Spelling.{spelling};
@@ -11,35 +11,29 @@ pub mod reader;
 
 use faults::{Fault, Refusal};
 
-/// How many bytes spell `n`.
+/// How many bytes spell `n`: one for each seven bits up to its highest.
 fn spelled_length(n: u64) -> usize
     ensures defined { result ≡ length (spelling n) }
+    ensures within_ten { (1 ≤ result) × (result ≤ 10) }
 {
-    let mut rest = n;
-    let mut count = 0;
-    while rest >= 128 {
-        rest /= 128;
-        count += 1;
-    }
-    count + 1
+    n.max(1).ilog2() as usize / 7 + 1
 }
 
 /// Writes `n` at the front of `out` and tells how many bytes that took; where it does not fit, nothing is written.
 pub fn write_number(out: &mut [u8], n: u64) -> Result<usize, Fault>
     ensures spelled_or_untouched { Written out.old n out.new result }
 {
-    if out.len() < spelled_length(n) {
+    let length = spelled_length(n);
+    if out.len() < length {
         return Err(Fault::at(Refusal::NoRoom, 0));
     }
     let mut rest = n;
-    let mut at = 0;
-    while rest >= 128 {
-        out[at] = 128 + (rest % 128) as u8;
+    for group in &mut out[..length - 1] {
+        *group = 128 + (rest % 128) as u8;
         rest /= 128;
-        at += 1;
     }
-    out[at] = rest as u8;
-    Ok(at + 1)
+    out[length - 1] = rest as u8;
+    Ok(length)
 }
 
 /// The laws of the spelling. What a reader answers is what is spelled there. What is written spells its number and is read back from wherever it stands; a number has one

@@ -1,6 +1,6 @@
 //! Reading numbers one after the other.
 ghost use Rattle.std.specs.Prelude.{◌≡◌, ℕ, ◌+◌, ◌<◌, ◌≤◌, length, slice_get, IfOk, IfErr, MatchOption};
-ghost use Rattle.numbers.specs.Reading.{number_at, with_end};
+ghost use Rattle.numbers.specs.Reading.{ReadsAs, number_at};
 
 use faults::{Fault, Refusal};
 
@@ -26,10 +26,9 @@ impl Reader<'_> {
     /// The number whose spelling begins here. A number that breaks off and one that is not spelled as it should be are
     /// refused at their first byte, where the reader then stays.
     pub fn number(&mut self) -> Result<u64, Fault>
-        ensures defined { with_end result self.new.at ≡ number_at self.old.bytes.now self.old.at }
+        ensures defined { ReadsAs number_at self.old result self.new }
         ensures goes_on { IfOk result (λ _. (self.old.at < self.new.at) × (self.new.at ≤ length self.old.bytes.now)) }
         ensures stays_on_a_fault { IfErr result (λ _. self.new.at ≡ self.old.at) }
-        ensures same_bytes { self.new.bytes.now ≡ self.old.bytes.now }
     {
         let first = self.at;
         let mut ahead = *self;
@@ -38,6 +37,7 @@ impl Reader<'_> {
             let Some(byte) = ahead.byte() else {
                 return Err(Fault::at(Refusal::EndsInside, first));
             };
+            // The tenth byte has room for one bit, and the last of several bytes is not 0.
             if (shift == 63 && byte > 1) || (shift > 0 && byte == 0) {
                 break;
             }

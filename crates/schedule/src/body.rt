@@ -1,6 +1,6 @@
 //! The calls of a schedule, read one by one.
 ghost use Rattle.std.specs.Prelude.{◌≡◌, ℕ, ◌+◌, ◌<◌, ◌≤◌, [], length, IfOk, IfErr};
-ghost use Rattle.numbers.specs.Reading.{with_end};
+ghost use Rattle.numbers.specs.Reading.{ReadsAs};
 ghost use Rattle.schedule.specs.Reading.{CallsAsRead, call_at, call_by, calls_from, operation_at, schedule_read};
 
 use super::header::read_job;
@@ -19,9 +19,8 @@ pub struct CallAt {
 
 /// Reads an operation: kind, counter and amount, each any number.
 fn read_operation(reader: &mut Reader) -> Result<RawOperation, Fault>
-    ensures defined { with_end result reader.new.at ≡ operation_at reader.old.bytes.now reader.old.at }
+    ensures defined { ReadsAs operation_at reader.old result reader.new }
     ensures goes_on { IfOk result (λ _. (reader.old.at < reader.new.at) × (reader.new.at ≤ length reader.old.bytes.now)) }
-    ensures same_bytes { reader.new.bytes.now ≡ reader.old.bytes.now }
 {
     Ok(RawOperation {
         kind: reader.number()?,
@@ -32,10 +31,9 @@ fn read_operation(reader: &mut Reader) -> Result<RawOperation, Fault>
 
 /// Reads a call. Its first letter says which call it is. On a fault the reader stays at that letter.
 pub fn read_call(reader: &mut Reader) -> Result<Call, Fault>
-    ensures defined { with_end result reader.new.at ≡ call_at reader.old.bytes.now reader.old.at }
+    ensures defined { ReadsAs call_at reader.old result reader.new }
     ensures goes_on { IfOk result (λ _. (reader.old.at < reader.new.at) × (reader.new.at ≤ length reader.old.bytes.now)) }
     ensures stays_on_a_fault { IfErr result (λ _. reader.new.at ≡ reader.old.at) }
-    ensures same_bytes { reader.new.bytes.now ≡ reader.old.bytes.now }
 {
     let first = reader.at;
     let mut ahead = *reader;
@@ -79,6 +77,7 @@ pub struct CallsRead {
 }
 
 /// Reads calls to the end.
+#[tactic(auto, using(crate::proofs::Calling::none_yet, crate::proofs::Calling::one_more))]
 pub fn read_calls(heap: Global, mut reader: Reader) -> Result<CallsRead, AllocError>
     ensures defined { IfOk result (λ read. record { calls = read.calls.items; fault = read.fault } ≡ calls_from (length reader.entry.bytes.now) reader.entry.bytes.now reader.entry.at) }
 {

@@ -1,7 +1,7 @@
 //! The header of a schedule, read part by part.
 ghost use Rattle.std.specs.Prelude.{◌≡◌, ℕ, ◌+◌, ◌<◌, ◌≤◌, length, IfOk, IfErr};
 ghost use Rattle.image.specs.Checks.{largest, least};
-ghost use Rattle.numbers.specs.Reading.{with_end};
+ghost use Rattle.numbers.specs.Reading.{ReadsAs};
 ghost use Rattle.schedule.specs.Reading.{field_at, header_at, job_at, padded_words_at, parts_at, sizes_at, table_at, text_at, word_count_at};
 
 use super::job::{ExclusionName, Job};
@@ -17,11 +17,10 @@ pub const SCHEDULE_LENGTH: usize = 32768;
 /// Reads a number of the job: it is read whole and then held against its limits, beyond which boot refuses the job. On a
 /// fault the reader stays at the number.
 pub fn read_field(reader: &mut Reader, field: Field) -> Result<u64, Fault>
-    ensures defined { with_end result reader.new.at ≡ field_at reader.old.bytes.now reader.old.at field }
+    ensures defined { ReadsAs (λ bytes at. field_at bytes at field) reader.old result reader.new }
     ensures within_limits { IfOk result (λ n. (least field ≤ n) × (n ≤ largest field)) }
     ensures goes_on { IfOk result (λ _. (reader.old.at < reader.new.at) × (reader.new.at ≤ length reader.old.bytes.now)) }
     ensures stays_on_a_fault { IfErr result (λ _. reader.new.at ≡ reader.old.at) }
-    ensures same_bytes { reader.new.bytes.now ≡ reader.old.bytes.now }
 {
     let mut ahead = *reader;
     let number = ahead.number()?;
@@ -34,8 +33,7 @@ pub fn read_field(reader: &mut Reader, field: Field) -> Result<u64, Fault>
 
 /// Reads the five sizes of the job.
 fn read_sizes(reader: &mut Reader) -> Result<Sizes, Fault>
-    ensures defined { with_end result reader.new.at ≡ sizes_at reader.old.bytes.now reader.old.at }
-    ensures same_bytes { reader.new.bytes.now ≡ reader.old.bytes.now }
+    ensures defined { ReadsAs sizes_at reader.old result reader.new }
 {
     Ok(Sizes {
         cpus: read_field(reader, Field::Cpus)?,
@@ -48,8 +46,7 @@ fn read_sizes(reader: &mut Reader) -> Result<Sizes, Fault>
 
 /// Reads the bytes of the descriptor table.
 fn read_table(reader: &mut Reader) -> Result<[u8; TABLE_LENGTH], Fault>
-    ensures defined { with_end result reader.new.at ≡ table_at reader.old.bytes.now reader.old.at }
-    ensures same_bytes { reader.new.bytes.now ≡ reader.old.bytes.now }
+    ensures defined { ReadsAs table_at reader.old result reader.new }
 {
     if let Some(rest) = reader.bytes.get(reader.at..)
         && let Some(table) = rest.first_chunk()
@@ -62,9 +59,8 @@ fn read_table(reader: &mut Reader) -> Result<[u8; TABLE_LENGTH], Fault>
 
 /// Reads the number of words.
 fn read_word_count(reader: &mut Reader) -> Result<usize, Fault>
-    ensures defined { with_end result reader.new.at ≡ word_count_at reader.old.bytes.now reader.old.at }
+    ensures defined { ReadsAs word_count_at reader.old result reader.new }
     ensures within_limits { IfOk result (λ n. (1 ≤ n) × (n ≤ 256)) }
-    ensures same_bytes { reader.new.bytes.now ≡ reader.old.bytes.now }
 {
     let first = reader.at;
     let count = reader.number()?;
@@ -72,11 +68,10 @@ fn read_word_count(reader: &mut Reader) -> Result<usize, Fault>
     Ok(count as usize)
 }
 
-/// Reads so many words into the front of an array.
+/// Reads so many words; the places behind them are 0.
 fn read_words(reader: &mut Reader, count: usize) -> Result<[u32; TEXT_LENGTH], Fault>
     requires { count ≤ 256 }
-    ensures defined { with_end result reader.new.at ≡ padded_words_at count reader.old.bytes.now reader.old.at }
-    ensures same_bytes { reader.new.bytes.now ≡ reader.old.bytes.now }
+    ensures defined { ReadsAs (padded_words_at count) reader.old result reader.new }
 {
     let mut words = [0; TEXT_LENGTH];
     for word in &mut words[..count] {
@@ -87,9 +82,8 @@ fn read_words(reader: &mut Reader, count: usize) -> Result<[u32; TEXT_LENGTH], F
 
 /// Reads the text: the number of its words, then the words.
 fn read_text(reader: &mut Reader) -> Result<Text, Fault>
-    ensures defined { with_end result reader.new.at ≡ text_at reader.old.bytes.now reader.old.at }
+    ensures defined { ReadsAs text_at reader.old result reader.new }
     ensures text_fits { IfOk result (λ text. text.count ≤ 256) }
-    ensures same_bytes { reader.new.bytes.now ≡ reader.old.bytes.now }
 {
     let count = read_word_count(reader)?;
     let words = read_words(reader, count)?;
@@ -98,9 +92,8 @@ fn read_text(reader: &mut Reader) -> Result<Text, Fault>
 
 /// Reads the parts of a job behind its letter.
 fn read_parts(reader: &mut Reader) -> Result<Job, Fault>
-    ensures defined { with_end result reader.new.at ≡ parts_at reader.old.bytes.now reader.old.at }
+    ensures defined { ReadsAs parts_at reader.old result reader.new }
     ensures text_fits { IfOk result (λ job. job.text.count ≤ 256) }
-    ensures same_bytes { reader.new.bytes.now ≡ reader.old.bytes.now }
 {
     let exclusion = read_field(reader, Field::Exclusion)?;
     Ok(Job {

@@ -19,7 +19,7 @@ pub enum ExclusionName {
 }
 
 /// A number that is no exclusion's.
-#[derive(Clone, Copy, PartialEq, Eq, Debug)]
+#[derive(Clone, Copy)]
 pub struct UnknownExclusion(pub u64);
 
 impl TryFrom<u64> for ExclusionName {

@@ -1,20 +1,21 @@
-use Rattle.std.proofs.Common.{arith}
-use Rattle.numbers.proofs.Write.{left_start, left_more, left_last, count_last, count_room}
+use Rattle.std.proofs.Common.{◌-◌, arith, length-take}
+use Rattle.numbers.proofs.Write.{left_start, left_more, left_last, written}
 use Rattle.numbers.proofs.write_number.Goals as goal
 
-pub loop-rest-init : goal.loop-rest-init
-loop-rest-init c = left_start _ _ (omega arith)
+pub loop-group-init : goal.loop-group-init
+loop-group-init c = left_start _ _ (omega arith)
 
-pub bounds-out-at : goal.bounds-out-at
-bounds-out-at c = omega (arith, count_room _ _ _ c.loop-rest.invariant.count)
+pub loop-group-preserved : goal.loop-group-preserved
+loop-group-preserved c = left_more _ _ _ _ _ c.loop-group.invariant c.loop-group-test.true (omega (arith, length-take (c.spelled_length-length.result - 1) c.args.out.now))
 
-pub loop-rest-preserved : goal.loop-rest-preserved
-loop-rest-preserved c = left_more _ _ _ _ _ c.loop-rest.invariant c.loop-rest-test.true
-
-pub bounds-out-at-2 : goal.bounds-out-at-2
-bounds-out-at-2 c = omega (arith, count_room _ _ _ c.loop-rest.invariant.count)
+pub overflow_cast-out : goal.overflow_cast-out
+overflow_cast-out c =
+    let room = length-take (c.spelled_length-length.result - 1) c.args.out.now in
+    let last = left_last _ _ _ _ _ c.loop-group.invariant (omega (arith, room)) in
+    omega arith
 
 pub returns : goal.returns
 returns c =
-    let k = count_last _ _ _ c.loop-rest.invariant.count c.loop-rest-test.false in
-    record { spelled_or_untouched = (k, omega arith, left_last _ _ _ _ _ c.loop-rest.invariant c.loop-rest-test.false (omega arith)) }
+    let room = length-take (c.spelled_length-length.result - 1) c.args.out.now in
+    let e = c.spelled_length-length.ensures.defined in
+    record { spelled_or_untouched = (e, omega arith, written _ _ _ _ _ _ c.loop-group.invariant (omega (arith, room)) (omega (arith, room)) e (omega arith)) }
