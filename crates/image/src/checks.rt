@@ -148,24 +148,3 @@ impl JobImage<'_> {
         Ok(())
     }
 }
-
-/// Checks the image of a job that is given by its parts.
-pub fn check_image(
-    sizes: &Sizes,
-    table: &[u8],
-    text: &[u32],
-    signature: u32,
-) -> Result<[Section; 5], Fault>
-    ensures defined { result ≡ checked_image sizes.now table.now text.now signature }
-    ensures accepted_exactly_if_every_rule_holds { AcceptedExactly sizes.now table.now text.now signature result }
-    ensures else_refused_by_the_first_that_fails { FirstThatFails (image_checks sizes.now table.now text.now signature) result }
-    ensures accepted_sections_lie_apart { LaidOutIfAccepted table.now text.now result }
-{
-    let image = JobImage {
-        sizes: *sizes,
-        table,
-        text,
-        signature,
-    };
-    image.check()
-}

@@ -6,7 +6,7 @@ ghost use Rattle.schedule.specs.Reading.{field_at, header_at, job_at, padded_wor
 
 use super::job::{ExclusionName, Job};
 use faults::{Fault, Refusal};
-use image::checks::{TABLE_LENGTH, TEXT_LENGTH, accept_text_length, check_image};
+use image::checks::{TABLE_LENGTH, TEXT_LENGTH, accept_text_length};
 use image::fields::{Field, Sizes};
 use image::text::Text;
 use numbers::reader::Reader;
@@ -132,8 +132,8 @@ pub fn read_job(bytes: &[u8]) -> Result<(Job, usize), Fault>
     ensures defined { result ≡ job_at bytes.now }
 {
     let (job, at) = read_header(bytes)?;
-    check_image(&job.sizes, &job.table, job.text.words(), job.signature).map_err(
-        |fault| Fault::by_boot(at, fault),
-    )?;
+    job.image()
+        .check()
+        .map_err(|fault| Fault::by_boot(at, fault))?;
     Ok((job, at))
 }

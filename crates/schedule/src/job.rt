@@ -1,8 +1,9 @@
 //! What a schedule's header tells.
 ghost use Rattle.std.specs.Prelude.{◌≡◌, Some};
+ghost use Rattle.schedule.specs.Format.{words_of};
 ghost use Rattle.schedule.specs.Names.{exclusion_name, exclusion_numbered};
 
-use image::checks::TABLE_LENGTH;
+use image::checks::{JobImage, TABLE_LENGTH};
 use image::fields::Sizes;
 use image::text::Text;
 use std::fmt;
@@ -61,4 +62,21 @@ pub struct Job {
     pub signature: u32,
     pub table: [u8; TABLE_LENGTH],
     pub text: Text,
+}
+
+impl Job {
+    /// The image of the job, as it is offered to boot.
+    pub fn image(&self) -> JobImage<'_>
+        ensures sizes { result.sizes ≡ self.now.sizes }
+        ensures table { result.table.now ≡ self.now.table }
+        ensures text { result.text.now ≡ words_of self.now.text }
+        ensures signature { result.signature ≡ self.now.signature }
+    {
+        JobImage {
+            sizes: self.sizes,
+            table: &self.table,
+            text: self.text.words(),
+            signature: self.signature,
+        }
+    }
 }
