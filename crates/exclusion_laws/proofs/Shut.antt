@@ -1,35 +1,23 @@
 -- What the meaning shuts out, and when two exclusions agree.
-use Rattle.std.proofs.Common.{◌≡◌, ℕ, List, sym, refl, ◌∙◌, subst₂, ⊎_elim, arith}
+use Rattle.std.proofs.Common.{◌≡◌, ℕ, List, sym, refl, subst₂, ⊎_elim, arith}
 use Rattle.std.proofs.lemmas.Bool.{cases_lt}
 use Rattle.image.specs.declared.layout.Section.{Section}
 use Rattle.exclusion.specs.declared.meaning.Verdict.{Verdict}
-use Rattle.exclusion.specs.declared.meaning.Verdict.TheVariants.{Outside, Held, Back}
+use Rattle.exclusion.specs.declared.meaning.Verdict.TheVariants.{Back}
 use Rattle.exclusion.specs.Meaning.{Meaning, Says, SameKind, NotOutsideWhenArmed, NotHeldWithoutPatience}
 use Rattle.exclusion.specs.Ours.{impatient}
 use Rattle.exclusion_laws.specs.Laws.{AgreeOnWhen}
 
-two : {P : Type 0} {u v w : Verdict} → u ≡ v → u ≡ w → (v ≡ w → P) → P
-two a b f = f (sym a ∙ b)
-
-outside_held : {P : Type 0} → Outside ≡ Held → P
-outside_held e = let z : ◌≡◌ {A = ℕ} 0 1 = cc in absurd (omega arith)
-
-outside_back : {P : Type 0} {p : ℕ} → Outside ≡ Back p → P
-outside_back e = let z : ◌≡◌ {A = ℕ} 0 1 = cc in absurd (omega arith)
-
-held_back : {P : Type 0} {p : ℕ} → Held ≡ Back p → P
-held_back e = let z : ◌≡◌ {A = ℕ} 0 1 = cc in absurd (omega arith)
-
 module _ (m : Meaning) (cpu armed place : ℕ) (v : Verdict) (s : Says m cpu armed place v) where
   pub never_outside : NotOutsideWhenArmed m armed place v
   never_outside possible only e =
-      ⊎_elim (λ some. outside_held (sym e ∙ s.held possible only some))
-      (λ none. let zero_left : m.patience cpu ≡ 0 = omega arith in ⊎_elim (λ b. outside_back (sym e ∙ b)) (λ b. outside_back (sym e ∙ b)) (s.back possible only zero_left))
+      ⊎_elim (λ some. cc (s.held possible only some))
+      (λ none. let zero_left : m.patience cpu ≡ 0 = omega arith in ⊎_elim (λ b. cc) (λ b. cc) (s.back possible only zero_left))
       (cases_lt 0 (m.patience cpu))
 
   pub never_held : NotHeldWithoutPatience m cpu armed place v
   never_held (possible, where_it_is) none e =
-      ⊎_elim (λ out. outside_held (sym (s.outside possible out) ∙ e)) (λ only. ⊎_elim (λ b. held_back (sym e ∙ b)) (λ b. held_back (sym e ∙ b)) (s.back possible only none)) where_it_is
+      ⊎_elim (λ out. cc (s.outside possible out)) (λ only. ⊎_elim (λ b. cc) (λ b. cc) (s.back possible only none)) where_it_is
 
 -- Where nobody has patience, two that have the same sections agree.
 both_back : (v w : Verdict) (p q : ℕ) → v ≡ Back p → w ≡ Back q → SameKind v w

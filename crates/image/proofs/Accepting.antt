@@ -13,7 +13,7 @@ use Rattle.words.specs.Words.{kinds}
 use Rattle.image.specs.Layout.{Inside, inside, descriptor_of, sections_of}
 use Rattle.image.specs.Checks.{Check, first_failing, between, size_checks, table_check, text_check, descriptor_checks, all_descriptor_checks, image_checks, checked_image}
 use Rattle.image.specs.Accepted.{WellDescribed, Acceptable, AcceptedExactly, FirstOf, FirstThatFails}
-use Rattle.image.proofs.Checking.{ok_no_err, passed}
+use Rattle.image.proofs.Checking.{passed}
 use Rattle.image.proofs.Lying.{lies, is_word_lying, routine_stands, standing_routine, is_inside, inside_is}
 
 abbrev Passes : Check → Type 0
@@ -159,7 +159,7 @@ module _ (sizes : Sizes) (table text : List ℕ) (signature : ℕ) where
   accepted_exactly (Ok sections) e =
       let all = all_passed (sections_of table) sections (image_checks sizes table text signature) (sym e) in
       (acceptable all, passed (sections_of table) sections (image_checks sizes table text signature) (sym e))
-  accepted_exactly (Err fault) e = λ a. ok_no_err (sym (passing (sections_of table) (image_checks sizes table text signature) (image_passes a)) ∙ sym e)
+  accepted_exactly (Err fault) e = λ a. cc (passing (sections_of table) (image_checks sizes table text signature) (image_passes a))
 
   pub fails_first : (r : Result (List Section) Fault) → r ≡ checked_image sizes table text signature → FirstThatFails (image_checks sizes table text signature) r
   fails_first r e = rw e (first_that_fails (sections_of table) (image_checks sizes table text signature))

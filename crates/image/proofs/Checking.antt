@@ -1,5 +1,5 @@
 -- Checks that are tried one list after the other.
-use Rattle.std.proofs.Common.{◌≡◌, ℕ, ◌+◌, ◌<◌, ◌≤◌, Bool, true, false, cond, List, [], ◌∷◌, ◌++◌, length, get_or, drop, Ok, Err, Result, sym, refl, ap, ◌∙◌, append-nil, arith, eq-eqb}
+use Rattle.std.proofs.Common.{◌≡◌, ℕ, ◌+◌, ◌<◌, ◌≤◌, Bool, true, false, cond, List, [], ◌∷◌, ◌++◌, length, get_or, drop, Ok, Err, Result, sym, refl, ap, ◌∙◌, append-nil, eq-eqb}
 use Rattle.std.proofs.lemmas.List.{drop_more, drop_all}
 use Rattle.faults.specs.declared.Fault.{Fault}
 use Rattle.image.specs.declared.layout.Section.{Section}
@@ -10,9 +10,6 @@ use Rattle.image.specs.declared.fields.Sizes.{Sizes}
 use Rattle.words.specs.Words.{kinds}
 use Rattle.image.specs.Checks.{Check, first_failing, all_pass, size_checks, table_check, text_check, descriptor_checks, all_descriptor_checks, checked_image}
 
-pub ok_no_err : {X Y P : Type 0} {x : X} {y : Y} → ◌≡◌ {A = Result X Y} (Ok x) (Err y) → P
-ok_no_err e = let z : ◌≡◌ {A = ℕ} 0 1 = cc in absurd (omega arith)
-
 -- Where the first list passes, the second decides.
 pub passed_on : {X Y : Type 0} (x : X) (y : Y) (z : Y) (first second : List Check) → first_failing y first ≡ Ok z
     → first_failing x (first ++ second) ≡ first_failing x second
@@ -22,20 +19,17 @@ passed_on {X} {Y} x y z (c ∷ cs) second e = go (passed_on x y z cs second) c.p
     go : (first_failing y cs ≡ Ok z → first_failing x (cs ++ second) ≡ first_failing x second) → (t : Bool)
         → cond t (first_failing y cs) (Err c.fault) ≡ Ok z → cond t (first_failing x (cs ++ second)) (Err c.fault) ≡ first_failing x second
     go ih true h = ih h
-    go ih false h = ok_no_err (sym h)
+    go ih false h = cc
 
 -- Where the first list fails, its fault is the answer.
 pub stopped : {X Y : Type 0} (x : X) (y : Y) (f : Fault) (first second : List Check) → first_failing y first ≡ Err f → first_failing x (first ++ second) ≡ Err f
-stopped x y f [] second e = ok_no_err e
+stopped x y f [] second e = cc
 stopped {X} {Y} x y f (c ∷ cs) second e = go (stopped x y f cs second) c.passes e
   where
-    same : {g h : Fault} → ◌≡◌ {A = Result Y Fault} (Err g) (Err h) → ◌≡◌ {A = Result X Fault} (Err g) (Err h)
-    same p = cc
-
     go : (first_failing y cs ≡ Err f → first_failing x (cs ++ second) ≡ Err f) → (t : Bool)
         → cond t (first_failing y cs) (Err c.fault) ≡ Err f → cond t (first_failing x (cs ++ second)) (Err c.fault) ≡ Err f
     go ih true h = ih h
-    go ih false h = same h
+    go ih false h = cc
 
 -- What passes is what was asked for.
 pub passed : {Y : Type 0} (y z : Y) (checks : List Check) → first_failing y checks ≡ Ok z → z ≡ y
@@ -44,7 +38,7 @@ passed {Y} y z (c ∷ cs) e = go (passed y z cs) c.passes e
   where
     go : (first_failing y cs ≡ Ok z → z ≡ y) → (t : Bool) → cond t (first_failing y cs) (Err c.fault) ≡ Ok z → z ≡ y
     go ih true h = ih h
-    go ih false h = ok_no_err (sym h)
+    go ih false h = cc
 
 -- Checks pass or fail whatever is asked for.
 pub passed_for : {X Y : Type 0} (x : X) (y z : Y) (checks : List Check) → first_failing y checks ≡ Ok z → first_failing x checks ≡ Ok x

@@ -1,5 +1,5 @@
 -- What the tests on the text say: a word lies at an address, words lie one after the other, a routine stands.
-use Rattle.std.proofs.Common.{◌≡◌, ℕ, zero, suc, ◌+◌, ◌-◌, ◌*◌, ◌/◌, ◌%◌, ◌<◌, ◌≤◌, Bool, true, false, cond, eqb, ltb, leb, List, [], ◌∷◌, length, get_or, Some, None, Decides, Option, sym, refl, ap, ◌∙◌, subst, arith, ltb-true, lt-ltb, eq-eqb, MatchOption}
+use Rattle.std.proofs.Common.{◌≡◌, ℕ, zero, suc, ◌+◌, ◌-◌, ◌*◌, ◌/◌, ◌%◌, ◌<◌, ◌≤◌, Bool, true, false, cond, eqb, ltb, leb, List, [], ◌∷◌, length, get_or, Some, None, Option, refl, ap, ◌∙◌, subst, arith, ltb-true, lt-ltb, eq-eqb}
 use Rattle.std.proofs.lemmas.Bool.{leb-true, le-leb, eqb-true, and_parts, and_from}
 use Rattle.image.specs.declared.layout.Section.{Section}
 use Rattle.words.specs.declared.Kind.{Kind}
@@ -10,9 +10,6 @@ use Rattle.image.specs.Layout.{LiesAt, word_at, Inside, inside}
 use Rattle.image.specs.Checks.{is_word, has_words, has_routine}
 use Rattle.image.specs.Accepted.{Routine}
 
-none_no_some : {P : Type 0} {n : ℕ} → ◌≡◌ {A = Option ℕ} None (Some n) → P
-none_no_some e = let z : ◌≡◌ {A = ℕ} 0 1 = cc in absurd (omega arith)
-
 pub word_lies : (text : List ℕ) (address n : ℕ) → word_at text address ≡ Some n → LiesAt text address n
 word_lies text address n e = first (leb 4096 address) refl e
   where
@@ -21,15 +18,15 @@ word_lies text address n e = first (leb 4096 address) refl e
 
     third : 4096 ≤ address → address % 4 ≡ 0 → (t : Bool) → ltb i (length text) ≡ t → cond t (Some (get_or text i 0)) None ≡ Some n → LiesAt text address n
     third low even true p q = let same : n ≡ get_or text i 0 = cc in (i, ltb-true i (length text) p, omega arith, same)
-    third low even false p q = none_no_some q
+    third low even false p q = cc
 
     second : 4096 ≤ address → (t : Bool) → eqb (address % 4) 0 ≡ t → cond t (cond (ltb i (length text)) (Some (get_or text i 0)) None) None ≡ Some n → LiesAt text address n
     second low true p q = third low (eqb-true (address % 4) 0 p) (ltb i (length text)) refl q
-    second low false p q = none_no_some q
+    second low false p q = cc
 
     first : (t : Bool) → leb 4096 address ≡ t → cond t (cond (eqb (address % 4) 0) (cond (ltb i (length text)) (Some (get_or text i 0)) None) None) None ≡ Some n → LiesAt text address n
     first true p q = second (leb-true 4096 address p) (eqb (address % 4) 0) refl q
-    first false p q = none_no_some q
+    first false p q = cc
 
 pub lies_word : (text : List ℕ) (address n : ℕ) → LiesAt text address n → word_at text address ≡ Some n
 lies_word text address n (i, within, at, is) =
@@ -39,10 +36,7 @@ lies_word text address n (i, within, at, is) =
     rw (low, even, place, lt-ltb i (length text) within, is)
 
 pub is_word_some : (o : Option ℕ) (n : ℕ) → is_word o n ≡ true → o ≡ Some n
-is_word_some None n e = let z : ◌≡◌ {A = Bool} false true = e in absurd (absurd_bool z)
-  where
-    absurd_bool : ◌≡◌ {A = Bool} false true → ⊥
-    absurd_bool p = let z : ◌≡◌ {A = ℕ} 0 1 = cc in omega arith
+is_word_some None n e = cc
 is_word_some (Some m) n e = ap Some (eqb-true m n e)
 
 pub lies : (text : List ℕ) (address n : ℕ) → is_word (word_at text address) n ≡ true → LiesAt text address n
@@ -107,11 +101,3 @@ pub inside_is : (section : Section) (address : ℕ) → Inside section address �
 inside_is section address h =
     and_from (leb section.start address) (ltb address (section.start + section.length))
     (le-leb section.start address h.0) (lt-ltb address (section.start + section.length) h.1)
-
-pub decides_inside : (section : Section) (address : ℕ) (r : Bool) → r ≡ inside section address → Decides r (Inside section address)
-decides_inside section address r e = (λ h. is_inside section address (sym e ∙ h), λ h. e ∙ inside_is section address h)
-
--- What a look-up finds.
-pub found_word : (text : List ℕ) (address : ℕ) (r : Option ℕ) → r ≡ word_at text address → MatchOption r ((word : ℕ) → LiesAt text address word → ⊥) (λ word. LiesAt text address word)
-found_word text address None e = λ word l. none_no_some (e ∙ lies_word text address word l)
-found_word text address (Some word) e = word_lies text address word (sym e)
