@@ -36,12 +36,14 @@ enum Stop {
     NoMemory(AllocError),
 }
 
+/// A part that is refused cannot be read; the fault itself is listed last, by the reading of the whole schedule.
 impl From<Fault> for Stop {
     fn from(_fault: Fault) -> Stop {
         Stop::Unreadable
     }
 }
 
+/// Memory that is wanting ends the listing of the schedule too.
 impl From<AllocError> for Stop {
     fn from(error: AllocError) -> Stop {
         Stop::NoMemory(error)

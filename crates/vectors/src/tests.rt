@@ -38,8 +38,7 @@ fn spelled(rt: &impl Abort, n: u64, bytes: &[u8]) -> Result<(), Fail> {
     let mut out = [0xEE; 12];
     let count = write_number(&mut out, n)?;
     assert_eq!(rt; count, bytes.len());
-    assert!(rt; count <= 12);
-    assert_eq!(rt; &out[0..count], bytes);
+    assert!(rt; out.starts_with(bytes));
     assert_eq!(rt; number_at(&out, 0), Ok((n, count)));
     assert_eq!(rt; number_at(bytes, 0), Ok((n, count)));
     Ok(())
