@@ -23,12 +23,7 @@ fn a_refused_job_ends_with_boots_fault(rt: HostRuntime) -> Result<(), Fail> {
 #[test]
 fn calls_before_a_fault_are_listed(rt: HostRuntime) -> Result<(), Fail> {
     let mut bytes = POP;
-    bytes[236] = b'g';
-    bytes[238] = 9;
-    bytes[241] = b'r';
-    bytes[243] = b'i';
-    bytes[244] = 5;
-    bytes[245] = b'x';
+    bytes[236..].copy_from_slice(b"g\x00\x09\x00\x00r\x00i\x05x\x09");
     let calls =
         "call 1 at 236 signal thread 0 operation kind 9 counter 0 amount 0\ncall 2 at 241 run cpu 0\ncall 3 at 243 idle cpu 5\nfault 22 245\nthat is: no job and no call begins with this letter\n";
     ends(&rt, rt.alloc(), &bytes, calls)

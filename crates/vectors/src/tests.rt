@@ -12,20 +12,12 @@ use image::fields::Sizes;
 use image::layout::Section;
 use numbers::reader::Reader;
 use numbers::write_number;
-use sample::{POP, POP_BREAKS, POP_HEADER, SIGNATURE, TABLE, TEXT};
+use sample::{IMAGE, POP, POP_BREAKS, POP_HEADER, SIZES, TABLE, TEXT};
 use schedule::body::{CallAt, read_call, read_calls, read_schedule};
 use schedule::header::{read_header, read_job};
 use std::alloc::Global;
 use std::process::Abort;
 use std::test::Fail;
-
-const SIZES: Sizes = Sizes {
-    cpus: 1,
-    threads: 2,
-    nodes: 2,
-    packets: 1,
-    counters: 1,
-};
 
 /// The number at an offset, and the offset behind it.
 fn number_at(bytes: &[u8], at: usize) -> Result<(u64, usize), Fault> {
@@ -40,19 +32,13 @@ fn call_at(bytes: &[u8], at: usize) -> Result<(Call, usize), Fault> {
     let call = read_call(&mut reader)?;
     Ok((call, reader.at))
 }
-const IMAGE: JobImage<'static> = JobImage {
-    sizes: SIZES,
-    table: &TABLE,
-    text: &TEXT,
-    signature: SIGNATURE,
-};
 
+/// The bytes are the spelling of the number: they are written, and they are read back.
 fn spelled(rt: &impl Abort, n: u64, bytes: &[u8]) -> Result<(), Fail> {
     let mut out = [0xEE; 12];
     let count = write_number(&mut out, n)?;
     assert_eq!(rt; count, bytes.len());
-    assert!(rt; count <= 12);
-    assert_eq!(rt; &out[0..count], bytes);
+    assert!(rt; out.starts_with(bytes));
     assert_eq!(rt; number_at(&out, 0), Ok((n, count)));
     assert_eq!(rt; number_at(bytes, 0), Ok((n, count)));
     Ok(())
@@ -71,6 +57,7 @@ fn numbers_have_their_bytes(rt: HostRuntime) -> Result<(), Fail> {
     )
 }
 
+/// The bytes do not begin with a number.
 fn unspelled(rt: &impl Abort, bytes: &[u8], refusal: Refusal) {
     assert_eq!(rt; number_at(bytes, 0), Err(Fault::at(refusal, 0)));
 }
@@ -141,19 +128,18 @@ fn the_sample_image_is_accepted(rt: HostRuntime) -> Result<(), Fail> {
     Ok(())
 }
 
+/// The image is refused with the fault.
+fn refused(rt: &impl Abort, image: JobImage, fault: Fault) {
+    assert_eq!(rt; image.check(), Err(fault));
+}
+
 /// The sample image with one byte of the table changed.
 fn table_refused(rt: &impl Abort, at: usize, byte: u8, refusal: Refusal, place: usize) {
     let mut table = TABLE;
-    assert!(rt; at < 160);
+    assert!(rt; at < table.len());
     table[at] = byte;
-    assert_eq!(rt;
-        JobImage {
-            table: &table,
-            ..IMAGE
-        }
-        .check(),
-        Err(Fault::at(refusal, place))
-    );
+    let table = &table;
+    refused(rt, JobImage { table, ..IMAGE }, Fault::at(refusal, place));
 }
 
 #[test]
@@ -174,21 +160,9 @@ fn each_check_of_a_descriptor_has_its_number_and_place(rt: HostRuntime) {
 /// The sample image with another length of the section of add.
 fn length_refused(rt: &impl Abort, length: u64, refusal: Refusal, place: usize) {
     let mut table = TABLE;
-    let bytes = length.to_le_bytes();
-    table[16] = bytes[0];
-    table[17] = bytes[1];
-    table[18] = bytes[2];
-    table[19] = bytes[3];
-    table[20] = bytes[4];
-    table[23] = bytes[7];
-    assert_eq!(rt;
-        JobImage {
-            table: &table,
-            ..IMAGE
-        }
-        .check(),
-        Err(Fault::at(refusal, place))
-    );
+    table[16..24].copy_from_slice(&length.to_le_bytes());
+    let table = &table;
+    refused(rt, JobImage { table, ..IMAGE }, Fault::at(refusal, place));
 }
 
 #[test]
@@ -203,16 +177,10 @@ fn the_end_of_a_section_is_a_whole_number(rt: HostRuntime) {
 /// The sample image with one word of the text changed.
 fn text_refused(rt: &impl Abort, at: usize, word: u32, refusal: Refusal, place: usize) {
     let mut text = TEXT;
-    assert!(rt; at < 42);
+    assert!(rt; at < text.len());
     text[at] = word;
-    assert_eq!(rt;
-        JobImage {
-            text: &text,
-            ..IMAGE
-        }
-        .check(),
-        Err(Fault::at(refusal, place))
-    );
+    let text = &text;
+    refused(rt, JobImage { text, ..IMAGE }, Fault::at(refusal, place));
 }
 
 #[test]
@@ -226,11 +194,20 @@ fn each_word_of_a_routine_counts(rt: HostRuntime) {
     text_refused(&rt, 41, 21, Refusal::WrongWords, 144);
 }
 
+/// The sample image with other sizes.
 fn sizes_refused(rt: &impl Abort, sizes: Sizes, place: usize) {
-    assert_eq!(rt;
-        JobImage { sizes, ..IMAGE }.check(),
-        Err(Fault::at(Refusal::OutOfRange, place))
-    );
+    let fault = Fault::at(Refusal::OutOfRange, place);
+    refused(rt, JobImage { sizes, ..IMAGE }, fault);
+}
+
+/// The sample image with another table or text, of a length that it may not have.
+fn lengths_refused(rt: &impl Abort, table: &[u8], text: &[u32], place: usize) {
+    let image = JobImage {
+        table,
+        text,
+        ..IMAGE
+    };
+    refused(rt, image, Fault::at(Refusal::ImageLength, place));
 }
 
 #[test]
@@ -277,38 +254,17 @@ fn sizes_and_lengths_are_held_to_their_limits(rt: HostRuntime) {
         },
         3,
     );
-    let short = JobImage {
-        table: &TABLE[0..159],
-        ..IMAGE
-    }
-    .check();
-    assert_eq!(rt; short, Err(Fault::at(Refusal::ImageLength, 0)));
-    let empty = JobImage { text: &[], ..IMAGE }.check();
-    assert_eq!(rt; empty, Err(Fault::at(Refusal::ImageLength, 1)));
-    let long = JobImage {
-        text: &[1; 257],
-        ..IMAGE
-    }
-    .check();
-    assert_eq!(rt; long, Err(Fault::at(Refusal::ImageLength, 1)));
-}
-
-/// Where a front of the example schedule breaks off.
-fn breaks(rt: &impl Abort, heap: Global, front: &[u8]) -> Result<Option<usize>, Fail> {
-    match read_schedule(heap, front)?.fault {
-        Some(fault) => {
-            assert_eq!(rt; fault, Fault::at(Refusal::EndsInside, fault.place));
-            Ok(Some(fault.place))
-        }
-        None => Ok(None),
-    }
+    lengths_refused(&rt, &TABLE[0..159], &TEXT, 0);
+    lengths_refused(&rt, &TABLE, &[], 1);
+    lengths_refused(&rt, &TABLE, &[1; 257], 1);
 }
 
 #[test]
 fn every_front_of_the_example_ends_where_it_should(rt: HostRuntime) -> Result<(), Fail> {
     for (length, place) in POP_BREAKS.iter().enumerate() {
-        assert!(rt; length <= POP.len());
-        assert_eq!(rt; breaks(&rt, rt.alloc(), &POP[0..length])?, *place);
+        let read = read_schedule(rt.alloc(), &POP[..length])?;
+        let fault = place.map(|place| Fault::at(Refusal::EndsInside, place));
+        assert_eq!(rt; read.fault, fault);
     }
     Ok(())
 }
@@ -341,78 +297,34 @@ fn the_example_has_its_calls(rt: HostRuntime) -> Result<(), Fail> {
 }
 
 /// The example with one byte of its header changed.
-fn header_refused(rt: &impl Abort, at: usize, byte: u8, fault: Fault) -> Result<(), Fail> {
+fn header_refused(rt: &impl Abort, at: usize, byte: u8, fault: Fault) {
     let mut bytes = POP;
-    assert!(rt; at < POP.len());
+    assert!(rt; at < bytes.len());
     bytes[at] = byte;
-    match read_job(&bytes) {
-        Ok(_) => Err(Fail::new("accepted")),
-        Err(found) => {
-            assert_eq!(rt; found, fault);
-            Ok(())
-        },
-    }
+    assert_eq!(rt; read_job(&bytes).err(), Some(fault));
+}
+
+/// The fault of a schedule's number that lies outside its limits, which stands at the offset of its field's place.
+fn beyond(place: usize) -> Fault {
+    Fault::by_boot(place, Fault::at(Refusal::OutOfRange, place))
 }
 
 #[test]
-fn a_refused_job_tells_boots_fault(rt: HostRuntime) -> Result<(), Fail> {
-    header_refused(&rt, 0, b'K', Fault::at(Refusal::UnknownLetter, 0))?;
-    header_refused(
-        &rt,
-        1,
-        3,
-        Fault::by_boot(1, Fault::at(Refusal::OutOfRange, 1)),
-    )?;
-    header_refused(
-        &rt,
-        4,
-        17,
-        Fault::by_boot(4, Fault::at(Refusal::OutOfRange, 4)),
-    )?;
-    header_refused(
-        &rt,
-        6,
-        16,
-        Fault::by_boot(6, Fault::at(Refusal::OutOfRange, 6)),
-    )?;
-    header_refused(
-        &rt,
-        3,
-        0,
-        Fault::by_boot(3, Fault::at(Refusal::OutOfRange, 3)),
-    )?;
-    header_refused(
-        &rt,
-        7,
-        9,
-        Fault::by_boot(7, Fault::at(Refusal::OutOfRange, 7)),
-    )?;
-    header_refused(
-        &rt,
-        12,
-        0x7F,
-        Fault::by_boot(8, Fault::at(Refusal::OutOfRange, 8)),
-    )?;
-    header_refused(
-        &rt,
-        13,
-        1,
-        Fault::by_boot(POP_HEADER, Fault::at(Refusal::Version, 0)),
-    )?;
-    header_refused(
-        &rt,
-        173,
-        0,
-        Fault::by_boot(173, Fault::at(Refusal::ImageLength, 1)),
-    )?;
+fn a_refused_job_tells_boots_fault(rt: HostRuntime) {
+    header_refused(&rt, 0, b'K', Fault::at(Refusal::UnknownLetter, 0));
+    header_refused(&rt, 1, 3, beyond(1));
+    header_refused(&rt, 4, 17, beyond(4));
+    header_refused(&rt, 6, 16, beyond(6));
+    header_refused(&rt, 3, 0, beyond(3));
+    header_refused(&rt, 7, 9, beyond(7));
+    header_refused(&rt, 12, 0x7F, beyond(8));
+    let version = Fault::by_boot(POP_HEADER, Fault::at(Refusal::Version, 0));
+    header_refused(&rt, 13, 1, version);
+    let no_words = Fault::by_boot(173, Fault::at(Refusal::ImageLength, 1));
+    header_refused(&rt, 173, 0, no_words);
     let long = [b'J'; 32769];
-    match read_header(&long) {
-        Ok(_) => Err(Fail::new("accepted")),
-        Err(found) => {
-            assert_eq!(rt; found, Fault::at(Refusal::EndsInside, 32768));
-            Ok(())
-        },
-    }
+    let too_long = Fault::at(Refusal::EndsInside, 32768);
+    assert_eq!(rt; read_header(&long).err(), Some(too_long));
 }
 
 #[test]
