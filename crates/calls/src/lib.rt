@@ -8,6 +8,7 @@ ghost use Rattle.std.specs.Prelude.{Some};
 use std::fmt;
 use words::Kind;
 
+// stays: the kind is a number, since any number can be asked for; it is checked when the call is made
 /// An operation as it is asked for: its kind by number, a counter and an amount.
 #[derive(Clone, Copy, PartialEq, Eq, Debug)]
 pub struct RawOperation {

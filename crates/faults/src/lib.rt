@@ -77,6 +77,7 @@ pub struct Cause {
     pub place: usize,
 }
 
+// stays: refusal and place are asked of every fault; an enum with the cause in one variant would need a method over its cases for each
 /// One refusal: which, at which place, and, where a schedule is refused because boot refused its job, boot's own fault.
 /// What a place counts (a field of the header, a byte of the table, a byte of the schedule) goes by the refusal; it is 0
 /// where the refusal has none.

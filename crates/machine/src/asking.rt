@@ -87,7 +87,7 @@ impl<E: Exclusion> Works<E> {
         ensures { result ≡ hand_told self.now.core thread }
     {
         let thread = index_below(thread, self.core.sizes.threads, Refusal::NoThread)?;
-        // stays: a rule of the project is that a hand is taken apart wherever its node is used or told
+        // stays: a rule of the project, that a hand is taken apart wherever its node is used or told
         match self.core.threads[thread].hand {
             Some(node) => Ok(Some(node)),
             None => Ok(None),

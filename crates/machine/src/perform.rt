@@ -49,6 +49,7 @@ pub fn section_of(image: &Image, operation: Operation) -> Section
     section_at(&image.sections, operation.kind().number())
 }
 
+// stays: one match on word and operation, a rule of the project; a closure for each word would take the same six things and hide which it uses
 /// Performs the word at the top frame's place, for its operation, on the CPU with the number `here` and with the structures
 /// of CPU q. A word that neither settles nor jumps goes on to the next place.
 pub fn perform(

@@ -17,6 +17,7 @@ use faults::{Fault, Refusal};
 use image::checks::JobImage;
 use model::state::{Core, Frame, Operation, Settling};
 
+// stays: indices are numbers with their bounds asked for; types for them would be turned back at each use, as the state and a settling hold numbers
 /// The state of a machine and its exclusion, which it tells and asks as its rules say. It keeps itself sound: what it uses as
 /// an index is within its arrays.
 #[derive(Drop)]

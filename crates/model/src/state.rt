@@ -37,6 +37,7 @@ impl Operation {
     }
 }
 
+// stays: `armed` is the number that an exclusion is asked with, 0 for none; an option of a kind would be turned into it at each question
 /// A frame of a thread's stack: an operation, the place of its next instruction, and the number of the descriptor that is
 /// armed, 0 if none is. The routine's entry arms its descriptor, which marks the frame as being in that routine's section; it
 /// is disarmed when the thread is disturbed and not sent back to the section's start.
@@ -57,6 +58,7 @@ pub const NO_FRAME: Frame = Frame {
     armed: 0,
 };
 
+// stays: eight places with the depth beside, as a machine has no heap; a thread is copied, and a vector of fixed capacity is no `Copy`
 /// A thread: its registers, its stack, of which the first `depth` frames count and the last of them is the top, and its
 /// hand, which holds one node or none. A node is a free buffer, known by its number from 1 on.
 #[derive(Clone, Copy)]
@@ -109,6 +111,7 @@ impl Thread {
     }
 }
 
+// stays: `list` is a word of memory, 0 for no node, as registers and next words are; an option would be turned into one at each copy
 /// A CPU: its current thread, its counters, the head of its list of nodes (0 for none), and its ring of packets by head, tail and
 /// slots. A packet is the amount that was put.
 #[derive(Clone, Copy)]
@@ -128,6 +131,7 @@ pub struct Image {
     pub text: Text,
 }
 
+// stays: arrays, as a machine has stated bounds and no heap
 /// A machine without its exclusion. Node n's next word stands at n.
 #[derive(Clone, Copy)]
 pub struct Core {
