@@ -18,6 +18,7 @@ pub enum Verdict {
     Back(u64),
 }
 
+// stays: sections are numbers, as in `Standing` and `section`, since an exclusion is asked about any; a type of the five would ask more of who asks
 /// What an exclusion is told.
 #[derive(Clone, Copy, PartialEq, Eq, Debug)]
 pub enum Notice {
