@@ -27,20 +27,6 @@ const SIZES: Sizes = Sizes {
     counters: 1,
 };
 
-/// The number at an offset, and the offset behind it.
-fn number_at(bytes: &[u8], at: usize) -> Result<(u64, usize), Fault> {
-    let mut reader = Reader { bytes, at };
-    let number = reader.number()?;
-    Ok((number, reader.at))
-}
-
-/// The call at an offset, and the offset behind it.
-fn call_at(bytes: &[u8], at: usize) -> Result<(Call, usize), Fault> {
-    let mut reader = Reader { bytes, at };
-    let call = read_call(&mut reader)?;
-    Ok((call, reader.at))
-}
-
 fn spelled(rt: &impl Abort, n: u64, bytes: &[u8]) -> Result<(), Fail> {
     let mut out = [0xEE; 12];
     let count = write_number(&mut out, n)?;
@@ -50,6 +36,13 @@ fn spelled(rt: &impl Abort, n: u64, bytes: &[u8]) -> Result<(), Fail> {
     assert_eq!(rt; number_at(&out, 0), Ok((n, count)));
     assert_eq!(rt; number_at(bytes, 0), Ok((n, count)));
     Ok(())
+}
+
+/// The number at an offset, and the offset behind it.
+fn number_at(bytes: &[u8], at: usize) -> Result<(u64, usize), Fault> {
+    let mut reader = Reader { bytes, at };
+    let number = reader.number()?;
+    Ok((number, reader.at))
 }
 
 #[test]
@@ -387,6 +380,13 @@ fn a_refused_job_tells_boots_fault(rt: HostRuntime) -> Result<(), Fail> {
             Ok(())
         },
     }
+}
+
+/// The call at an offset, and the offset behind it.
+fn call_at(bytes: &[u8], at: usize) -> Result<(Call, usize), Fault> {
+    let mut reader = Reader { bytes, at };
+    let call = read_call(&mut reader)?;
+    Ok((call, reader.at))
 }
 
 #[test]
