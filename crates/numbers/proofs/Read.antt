@@ -1,8 +1,7 @@
-use Rattle.std.proofs.Common.{◌≡◌, ℕ, zero, suc, ◌+◌, ◌-◌, ◌*◌, ◌%◌, ◌^◌, ◌<◌, ◌≤◌, Bool, true, false, cond, ltb, leb, List, [], ◌∷◌, length, get_or, drop, Some, None, Ok, Err, Option, slice_get, sym, refl, ap, ◌∙◌, subst, ◌⊎◌, ⊎_elim, mul-le-mul_right, mul_assoc, mul_comm, mul-add, mul_left_comm, arith, pow_mono, pow-add, ltb-true, le-ltb, lt-ltb}
+use Rattle.std.proofs.Common.{◌≡◌, ℕ, zero, suc, ◌+◌, ◌-◌, ◌*◌, ◌%◌, ◌^◌, ◌<◌, ◌≤◌, Bool, true, false, cond, ltb, leb, List, [], ◌∷◌, length, get_or, drop, Ok, Err, slice_index, sym, refl, ap, ◌∙◌, subst, ◌⊎◌, ⊎_elim, mul-le-mul_right, mul_assoc, mul_comm, mul-add, mul_left_comm, arith, pow_mono, pow-add, ltb-true, le-ltb, lt-ltb}
 use Rattle.std.proofs.lemmas.Nat.{shl_whole}
 use Rattle.std.proofs.lemmas.Bool.Decides.{leb_tells}
 use Rattle.std.proofs.lemmas.List.{drop_more, drop_all}
-use Rattle.std.proofs.lemmas.Option.{slice_get_within, get_or_from_slice_get, slice_get_cases}
 use Rattle.faults.specs.declared.Refusal.TheVariants.{EndsInside, WrongSpelling}
 use Rattle.faults.specs.Numbering.{fault_at}
 use Rattle.numbers.specs.declared.reader.Reader.{Reader}
@@ -83,13 +82,11 @@ pub record Here (bytes : List ℕ) (at b : ℕ) : Type 0 where
   pub is : b ≡ get_or bytes at 0
 
 -- What `byte` answers of the same bytes.
-pub got : (bytes same : List ℕ) (at b : ℕ) (r : Option ℕ) → same ≡ bytes → r ≡ slice_get same at → r ≡ Some b → Here bytes at b
-got bytes same at b r s e f =
-    let g : slice_get bytes at ≡ Some b = cc in
-    record { within = slice_get_within bytes at b g; is = sym (get_or_from_slice_get bytes at b 0 g) }
+pub got : (bytes others : List ℕ) (at b : ℕ) → others ≡ bytes → (at < length others) × (b ≡ slice_index others at) → Here bytes at b
+got bytes others at b e f = let g = rw e at f in record { within = g.0; is = g.1 }
 
-pub gone : (bytes same : List ℕ) (at : ℕ) (r : Option ℕ) → same ≡ bytes → r ≡ slice_get same at → r ≡ None → length bytes ≤ at
-gone bytes same at r s e f = grind (arith, slice_get_cases bytes at)
+pub gone : (bytes others : List ℕ) (at : ℕ) → others ≡ bytes → length others ≤ at → length bytes ≤ at
+gone bytes others at e f = rw e at f
 
 here : (bytes : List ℕ) (first at shift value b : ℕ) (s : SoFar bytes first at shift value) → Here bytes at b
     → hear 9 (drop first bytes) ≡ after s.groups value (hear s.left (b ∷ drop (at + 1) bytes))

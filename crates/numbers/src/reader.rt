@@ -1,5 +1,5 @@
 //! Reading numbers one after the other.
-ghost use Rattle.std.specs.Prelude.{◌≡◌, ℕ, ◌+◌, ◌<◌, ◌≤◌, length, slice_get, IfOk, IfErr, MatchOption};
+ghost use Rattle.std.specs.Prelude.{◌≡◌, ℕ, ◌+◌, ◌<◌, ◌≤◌, length, slice_index, IfOk, IfErr, MatchOption};
 ghost use Rattle.numbers.specs.Reading.{ReadsAs, number_at};
 
 use faults::{Fault, Refusal};
@@ -14,7 +14,7 @@ pub struct Reader<'a> {
 impl Reader<'_> {
     /// The next byte, if there is one.
     pub fn byte(&mut self) -> Option<u8>
-        ensures defined { result ≡ slice_get self.old.bytes.now self.old.at }
+        ensures defined { MatchOption result (length self.old.bytes.now ≤ self.old.at) (λ byte. (self.old.at < length self.old.bytes.now) × (byte ≡ slice_index self.old.bytes.now self.old.at)) }
         ensures goes_on { MatchOption result (self.new.at ≡ self.old.at) (λ _. self.new.at ≡ self.old.at + 1) }
         ensures same_bytes { self.new.bytes.now ≡ self.old.bytes.now }
     {

@@ -9,7 +9,7 @@ loop-shift-init c = record { so_far = start _ _; not_moved = refl; same_bytes = 
 pub returns-in_default-clause-defined : goal.returns-in_default-clause-defined
 returns-in_default-clause-defined c =
     let i = c.loop-shift.invariant in
-    let e = broken _ _ _ _ _ i.so_far (gone _ _ _ _ i.same_bytes c.byte.ensures.defined c.in_default.is) in
+    let e = broken _ _ _ _ _ i.so_far (gone _ _ _ i.same_bytes c.in_default.ensures.defined) in
     (cc (e, c.at.ensures.placed), unmoved i.not_moved)
 
 pub overflow_add-result : goal.overflow_add-result
@@ -20,7 +20,7 @@ overflow_add-result c =
 pub returns-then-byte-lt128-clause-defined : goal.returns-then-byte-lt128-clause-defined
 returns-then-byte-lt128-clause-defined c =
     let i = c.loop-shift.invariant in
-    let h = got _ _ _ _ _ i.same_bytes c.byte.ensures.defined c.in-Some.is in
+    let h = got _ _ _ _ i.same_bytes c.in-Some.ensures.defined in
     let s = shifted _ _ _ _ _ c.from.result i.so_far (omega arith) (λ e. omega (arith, c.if-byte-gt1.either)) in
     let e = ended _ _ _ _ _ _ i.so_far h c.if-byte-lt128.true (λ e. omega (arith, c.if-byte-gt1.either)) (λ e. omega (arith, c.if-byte-eq0.either)) in
     (rw (s.whole, c.from.ensures, c.in-Some.ensures.goes_on) (sym e), c.byte.ensures.same_bytes ∙ i.same_bytes)
@@ -28,7 +28,7 @@ returns-then-byte-lt128-clause-defined c =
 pub returns-then-byte-lt128-clause-goes_on : goal.returns-then-byte-lt128-clause-goes_on
 returns-then-byte-lt128-clause-goes_on c =
     let i = c.loop-shift.invariant in
-    let h = got _ _ _ _ _ i.same_bytes c.byte.ensures.defined c.in-Some.is in
+    let h = got _ _ _ _ i.same_bytes c.in-Some.ensures.defined in
     rw c.in-Some.ensures.goes_on (omega (arith, i.so_far.place), omega (arith, h.within))
 
 pub overflow_add-value : goal.overflow_add-value
@@ -39,7 +39,7 @@ overflow_add-value c =
 pub loop-shift-preserved : goal.loop-shift-preserved
 loop-shift-preserved c =
     let i = c.loop-shift.invariant in
-    let h = got _ _ _ _ _ i.same_bytes c.byte.ensures.defined c.in-Some.is in
+    let h = got _ _ _ _ i.same_bytes c.in-Some.ensures.defined in
     let s = shifted _ _ _ _ _ c.from-in-loop-shift.result i.so_far (omega arith) (λ e. omega (arith, c.if-byte-gt1.either)) in
     record {
       so_far = rw (s.whole, c.from-in-loop-shift.ensures, c.in-Some.ensures.goes_on)
@@ -54,7 +54,7 @@ returns-clause-defined c =
     elim c.loop-shift-test.branch [
       | else-loop-shift-test w ↦ absurd (omega (arith, i.so_far.nine, i.so_far.bits, w.loop-shift-test.false))
       | then-loop-shift-test+in-Some+then-byte-gt1 w ↦
-          let h = got _ _ _ _ _ i.same_bytes w.byte.ensures.defined w.in-Some.is in
+          let h = got _ _ _ _ i.same_bytes w.in-Some.ensures.defined in
           let wrong : ((c.loop-shift.shift ≡ 63) × (1 < w.in-Some.byte)) ⊎ ((0 < c.loop-shift.shift) × (w.in-Some.byte ≡ 0)) =
           elim w.then-byte-gt1.branch [
             | then-byte-gt1-via-then-byte-gt1 v ↦ inl (omega arith, omega arith)
