@@ -19,7 +19,7 @@ use Rattle.lives.proofs.Threads.{all_top, pushed_stands, pushed_frames}
 use Rattle.lives.specs.Apart.{begun, frames_of}
 
 none_some : {P : Type 0} {x : ℕ} → ◌≡◌ {A = Option ℕ} None (Some x) → P
-none_some e = let z : ◌≡◌ {A = ℕ} 0 1 = cc in absurd (omega arith)
+none_some e = cc
 
 -- A thread all of whose frames stand at restart points, on a CPU without patience.
 pub calm_standing : (core : Core) (patience c t : ℕ) → (cpu_at core c).current ≡ Some t → patience ≡ 0 → Whole (thread_at core t) → AllByRecursion (RestartPoint core.image) (frames_of (thread_at core t)) → Standing core patience c

@@ -32,7 +32,7 @@ use Rattle.lives.specs.Apart.{frames_of, cpu_among}
 
 -- The fault of checks that do not all pass is that of one of them.
 pub fault_among : {X : Type 0} (P : Fault → Type 0) (x : X) (checks : List Check) (fault : Fault) → AllByRecursion (λ (check : Check). P check.fault) checks → first_failing x checks ≡ Err fault → P fault
-fault_among P x [] fault all e = let z : ◌≡◌ {A = ℕ} 0 1 = cc in absurd (omega arith)
+fault_among P x [] fault all e = cc
 fault_among {X} P x (check ∷ checks) fault all e = go check.passes refl (λ rest. fault_among P x checks fault all.1 rest)
   where
     same : {f g : Fault} → ◌≡◌ {A = Result X Fault} (Err f) (Err g) → f ≡ g
@@ -46,10 +46,10 @@ fault_among {X} P x (check ∷ checks) fault all e = go check.passes refl (λ re
 module _ (sizes : Sizes) where
   only_if : (b : Bool) (o operation : Operation) → cond b (Some o) None ≡ Some operation → (b ≡ true) × (o ≡ operation)
   only_if true o operation e = (refl, cc)
-  only_if false o operation e = let z : ◌≡◌ {A = ℕ} 0 1 = cc in absurd (omega arith)
+  only_if false o operation e = cc
 
   valid_kind : (k : Option Kind) (counter amount : ℕ) (operation : Operation) → by_kind sizes k counter amount ≡ Some operation → Valid sizes operation
-  valid_kind None counter amount operation e = let z : ◌≡◌ {A = ℕ} 0 1 = cc in absurd (omega arith)
+  valid_kind None counter amount operation e = cc
   valid_kind (Some kind.Add) counter amount operation e = let p = only_if _ (Add counter amount) operation e in subst (Valid sizes) p.1 (ltb-true counter sizes.counters p.0)
   valid_kind (Some kind.Push) counter amount operation e = let p = only_if _ Push operation e in subst (Valid sizes) p.1 tt
   valid_kind (Some kind.Pop) counter amount operation e = let p = only_if _ Pop operation e in subst (Valid sizes) p.1 tt
@@ -62,24 +62,24 @@ module _ (sizes : Sizes) where
 -- The CPU that has a thread.
 module _ (core : Core) (t : ℕ) where
   is_there : (o : Option ℕ) → is_thread t o ≡ true → o ≡ Some t
-  is_there None e = let z : ◌≡◌ {A = ℕ} 0 1 = cc in absurd (omega arith)
+  is_there None e = cc
   is_there (Some s) e = ap Some (eqb-true s t e)
 
   is_not_there : (o : Option ℕ) → is_thread t o ≡ false → o ≡ Some t → ⊥
-  is_not_there None e is = let z : ◌≡◌ {A = ℕ} 0 1 = cc in omega arith
+  is_not_there None e is = cc
   is_not_there (Some s) e is = eqb-false s t e (some_same is)
 
   none_of : (cpus : List Cpu) (i : ℕ) → cpu_among cpus i t ≡ None → (j : ℕ) → (get_or cpus j no_cpu).current ≡ Some t → ⊥
-  none_of [] i e j there = let z : ◌≡◌ {A = ℕ} 0 1 = cc in omega arith
+  none_of [] i e j there = cc
   none_of (cpu ∷ cpus) i e j there = go (is_thread t cpu.current) refl (λ rest. none_of cpus (suc i) rest) j there
     where
       go : (b : Bool) → is_thread t cpu.current ≡ b → (cpu_among cpus (suc i) t ≡ None → (j : ℕ) → (get_or cpus j no_cpu).current ≡ Some t → ⊥) → (j : ℕ) → (get_or (cpu ∷ cpus) j no_cpu).current ≡ Some t → ⊥
-      go true is then j there = let clash : Some i ≡ None = sym (ap (λ x. cond x (Some i) (cpu_among cpus (suc i) t)) is) ∙ e in let z : ◌≡◌ {A = ℕ} 0 1 = cc in omega arith
+      go true is then j there = let clash : Some i ≡ None = sym (ap (λ x. cond x (Some i) (cpu_among cpus (suc i) t)) is) ∙ e in cc
       go false is then zero there = is_not_there cpu.current is there
       go false is then (suc j) there = then (sym (ap (λ x. cond x (Some i) (cpu_among cpus (suc i) t)) is) ∙ e) j there
 
   one_of : (cpus : List Cpu) (i c : ℕ) → cpu_among cpus i t ≡ Some c → (i ≤ c) × ((get_or cpus (c - i) no_cpu).current ≡ Some t)
-  one_of [] i c e = let z : ◌≡◌ {A = ℕ} 0 1 = cc in absurd (omega arith)
+  one_of [] i c e = cc
   one_of (cpu ∷ cpus) i c e = go (is_thread t cpu.current) refl (λ rest. one_of cpus (suc i) c rest)
     where
       go : (b : Bool) → is_thread t cpu.current ≡ b → (cpu_among cpus (suc i) t ≡ Some c → (suc i ≤ c) × ((get_or cpus (c - suc i) no_cpu).current ≡ Some t)) → (i ≤ c) × ((get_or (cpu ∷ cpus) (c - i) no_cpu).current ≡ Some t)
@@ -145,7 +145,7 @@ module _ {E : Type 0} (meaning : E → Meaning) (told : E → Notice → E → T
 
     verdict_depth : (v : Verdict) (th : Thread) → after_verdict m.0 (thread_at m.0 t) v ≡ Some th → th.depth ≡ (thread_at m.0 t).depth
     verdict_depth verdict.Outside th is = sym (ap (λ (x : Thread). x.depth) (some_same is))
-    verdict_depth verdict.Held th is = let z : ◌≡◌ {A = ℕ} 0 1 = cc in absurd (omega arith)
+    verdict_depth verdict.Held th is = cc
     verdict_depth (verdict.Back place) th is = sym (ap (λ (x : Thread). x.depth) (some_same is))
 
     -- A meaning as it would be after left, to look at what a held thread tells of the one before.
@@ -201,5 +201,5 @@ module _ {E : Type 0} (meaning : E → Meaning) (told : E → Notice → E → T
   disturbed_current None none o is =
       subst ByCore (sym is)
       (nothing_asked (λ f tells. idle (inv.current c ∙ none) ((left_becomes f tells).there (omega (arith, exists, inv.limits.cpus))))
-      (λ s there. let clash : None ≡ Some s = sym none ∙ there in let z : ◌≡◌ {A = ℕ} 0 1 = cc in absurd (omega arith)))
+      (λ s there. let clash : None ≡ Some s = sym none ∙ there in cc))
   disturbed_current (Some t) on o d = disturbed t on o d

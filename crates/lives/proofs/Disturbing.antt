@@ -115,7 +115,7 @@ module _ (l : Ledger) (m : Meaning) (core : Core) (c t : ℕ) (inv : Invariant l
       same_thread s there = some_same (sym there ∙ inv.current c ∙ on)
 
       go : Standing core (m.patience c) c → StandsThere
-      go (idle none calm) = let clash : None ≡ Some t = sym none ∙ inv.current c ∙ on in let z : ◌≡◌ {A = ℕ} 0 1 = cc in absurd (omega arith)
+      go (idle none calm) = let clash : None ≡ Some t = sym none ∙ inv.current c ∙ on in cc
       go (resting s there rests calm) = let e = ap (λ x. (thread_at core x).depth) (same_thread s there) in absurd (omega (arith, some))
       go (restarting s there more point calm) = restarts_there (subst (λ x. RestartPoint core.image (top_frame (thread_at core x))) (same_thread s there) point) calm
       go (midway s there more at) = midway_there (subst (λ x. Midway core.sizes.packets core.image c (cpu_at core c) core.next (thread_at core x)) (same_thread s there) at)

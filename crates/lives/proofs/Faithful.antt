@@ -39,7 +39,7 @@ use Rattle.model.specs.Laws.{HeadsAreSlots}
 use Rattle.lives.proofs.Stacks.{mapped_backwards}
 
 nothing_yet : {P : Type 0} {t : ℕ} → ◌≡◌ {A = Option ℕ} None (Some t) → P
-nothing_yet e = let z : ◌≡◌ {A = ℕ} 0 1 = cc in absurd (omega arith)
+nothing_yet e = cc
 
 false_true : {P : Type 0} → false ≡ true → P
 false_true e = absurd (false≢true e)

@@ -52,7 +52,7 @@ module _ {E : Type 0} (meaning : E → Meaning) (l : Ledger) (marks : ℕ → Li
       on_none x other = untouched l k (meaning m.1) (meaning m.1) m.0 core x (marks x) image (current x) (λ s there. threads s (other s there)) refl (well.paced x)
 
       by_thread : (x : ℕ) (o : Option ℕ) → l.current x ≡ o → Paced k (meaning m.1) core x (marks x)
-      by_thread x None is = on_none x (λ s there same. let clash : None ≡ Some s = sym is ∙ there in let z : ◌≡◌ {A = ℕ} 0 1 = cc in omega arith)
+      by_thread x None is = on_none x (λ s there same. let clash : None ≡ Some s = sym is ∙ there in cc)
       by_thread x (Some r) is =
           ⊎_elim
           (λ (same : r ≡ t).
@@ -63,7 +63,7 @@ module _ {E : Type 0} (meaning : E → Meaning) (l : Ledger) (marks : ℕ → Li
 -- A call about a CPU's thread: about the CPU that has it, and no other.
 module _ (l : Ledger) (thread : ℕ) where
   pub is_thread_of : (o : Option ℕ) → is_thread thread o ≡ true → o ≡ Some thread
-  is_thread_of None e = let z : ◌≡◌ {A = ℕ} 0 1 = cc in absurd (omega arith)
+  is_thread_of None e = cc
   is_thread_of (Some s) e = ap Some (eqb-true s thread e)
 
   pub thread_there : (o : Option ℕ) → o ≡ Some thread → is_thread thread o ≡ true

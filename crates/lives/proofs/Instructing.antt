@@ -119,7 +119,7 @@ module _ (image : Image) (text : TextStands image) (operation : Operation) where
   entry_not_abort : entry_of image operation ≡ (section_of_operation image operation).abort → ⊥
   entry_not_abort same =
       let clash : Some Enter ≡ Some Restart = sym (text.entry_word operation) ∙ ap (word_here image) same ∙ text.abort_word operation in
-      let z : ◌≡◌ {A = ℕ} 0 1 = cc in omega arith
+      cc
 
   abbrev pub from : ℕ → ℕ
   from place = cond (eqb place (section_of_operation image operation).abort) (4 * long + 8) (start + 4 * long - place)
@@ -351,7 +351,7 @@ module _ (l : Ledger) (m : Meaning) (core : Core) (c t : ℕ) (inv : Invariant l
   nothing_waits none =
       let clash : operation ∷ map (λ (f : Frame). f.operation) (frames_of (dropped thread)) ≡ [] =
       sym (ap (map (λ (f : Frame). f.operation)) (frames_top thread stands.whole some)) ∙ stands.waits ∙ ap (map (λ (w : Waiting). w.operation)) none in
-      let z : ◌≡◌ {A = ℕ} 0 1 = cc in absurd (omega arith)
+      cc
 
   settles_right : (n : Meaning) (i : ℕ) (answer : Answer) → SettlesAs core l c t thread (cpu_at core c) core.next (does_whole core.sizes.packets l t c operation) (step_at i) answer → PatienceBecomes m c 0 n
       → (ws : List Waiting) → l.waiting t ≡ ws → (k : Ledger) → Settled n (after_change l k m n core c t (step_at i).thread (cpus_at i) (step_at i).next) (settling_as operation answer)
@@ -465,7 +465,7 @@ module _ (l : Ledger) (m : Meaning) (core : Core) (c t : ℕ) (inv : Invariant l
       same_thread s there = some_same (sym there ∙ inv.current c ∙ on)
 
       go : Standing core (m.patience c) c → Right n (performed core c t)
-      go (idle none calm) = let clash : None ≡ Some t = sym none ∙ inv.current c ∙ on in let z : ◌≡◌ {A = ℕ} 0 1 = cc in absurd (omega arith)
+      go (idle none calm) = let clash : None ≡ Some t = sym none ∙ inv.current c ∙ on in cc
       go (resting s there rests calm) = let e = ap (λ x. (thread_at core x).depth) (same_thread s there) in absurd (omega (arith, some))
       go (restarting s there more point calm) = at_point (subst (λ x. RestartPoint core.image (top_frame (thread_at core x))) (same_thread s there) point) calm
       go (midway s there more at) = midway_right n (subst (λ x. Midway core.sizes.packets core.image c (cpu_at core c) core.next (thread_at core x)) (same_thread s there) at)

@@ -41,7 +41,7 @@ NotHeld fault = eqb (number_of fault.refusal) 18 ≡ false
 
 some_is : (o : Option ℕ) → is_some o ≡ false → o ≡ None
 some_is None e = refl
-some_is (Some x) e = let z : ◌≡◌ {A = ℕ} 0 1 = cc in absurd (omega arith)
+some_is (Some x) e = cc
 
 quiet_marks : (count : ℕ) → instructions_of count None ≡ replicate count (instruction false)
 quiet_marks zero = refl
@@ -250,7 +250,7 @@ module _ {E : Type 0} (meaning : E → Meaning) (told : E → Notice → E → T
         checked (call.Idle c) (has_cpu core c ∷ has_current core c ∷ []) r k (Changes c None r k) (refl, (refl, tt))
         (λ passed d.
         let exists : c < sizes.cpus = ltb-true c sizes.cpus passed.0 in
-        changed (call.Idle c) c None exists (λ s is. let z : ◌≡◌ {A = ℕ} 0 1 = cc in absurd (omega arith)) (λ other. refl)
+        changed (call.Idle c) c None exists (λ s is. cc) (λ other. refl)
         (λ a y answer later same. subst (λ b. After (call.Idle c) b y) (sym answer) (record { same_sizes = same; well = later; settlings = (refl, lived_so.settlings) })) r k d.0
         (disturbed_current meaning told answers has l m c inv exists (cpu_at core c).current (sym (inv.current c)) d.0 d.1) d.2)
         _ refl step

@@ -16,13 +16,13 @@ use Rattle.model.specs.Laws.{RefusedChangesNothing, OnlyTheStructuresOfQ, OnlyIt
 
 -- Answers that differ.
 pub accepted_refused : {P : Type 0} {f : Fault} → refused f ≡ accepted → P
-accepted_refused e = let z : ◌≡◌ {A = ℕ} 0 1 = cc in absurd (omega arith)
+accepted_refused e = cc
 
 pub ran_refused : {P : Type 0} {f : Fault} {s : Option Settling} → refused f ≡ ran s → P
-ran_refused e = let z : ◌≡◌ {A = ℕ} 0 1 = cc in absurd (omega arith)
+ran_refused e = cc
 
 pub advanced_refused : {P : Type 0} {f : Fault} {n : ℕ} {s : Option Settling} → refused f ≡ advanced n s → P
-advanced_refused e = let z : ◌≡◌ {A = ℕ} 0 1 = cc in absurd (omega arith)
+advanced_refused e = cc
 
 module _ {E : Type 0} (told : E → Notice → E → Type 0) (answers : E → ℕ → ℕ → ℕ → Verdict → Type 0) where
   -- A call whose checks are tried: refused, or done.
@@ -139,7 +139,7 @@ module _ {E : Type 0} (told : E → Notice → E → Type 0) (answers : E → �
   up_is (suc d) n = let h = up_is d n in omega arith
 
   some_none : {P : Type 0} {x : Settling} → ◌≡◌ {A = Option Settling} (Some x) None → P
-  some_none e = let z : ◌≡◌ {A = ℕ} 0 1 = cc in absurd (omega arith)
+  some_none e = cc
 
   not_shorter : (cpu t n a b : ℕ) (x y : Option Settling) (m k l : Core × E) → Stopped told answers n a x → Stopped told answers n b y → Runs told answers cpu t a x m k → Runs told answers cpu t b y m l → a < b → ⊥
   not_shorter cpu t n a b None None m k l u v p q lt = omega arith
