@@ -1,6 +1,6 @@
 -- What holds of every call.
-use Rattle.std.proofs.Common.{◌≡◌, ℕ, zero, suc, ◌+◌, ◌-◌, ◌<◌, Bool, true, false, eqb, Some, None, Ok, Err, MatchBool, Option, Result, sym, refl, ap, ap₂, ◌∙◌, subst, ⊎_elim, arith, get_or-set_other}
-use Rattle.std.proofs.lemmas.Bool.{cases_order}
+use Rattle.std.proofs.Common.{◌≡◌, ℕ, zero, suc, ◌<◌, ◌≤◌, Bool, true, false, eqb, Some, None, Ok, Err, MatchBool, Option, Result, sym, refl, ap, ap₂, ◌∙◌, subst, ⊎_elim, arith, get_or-set_other}
+use Rattle.std.proofs.lemmas.Bool.{cases_lt, cases_order}
 use Rattle.std.proofs.lemmas.Option.{none-some}
 use Rattle.faults.specs.declared.Fault.{Fault}
 use Rattle.calls.specs.declared.Call.{Call}
@@ -113,25 +113,17 @@ module _ {E : Type 0} (told : E → Notice → E → Type 0) (answers : E → �
   one_length cpu t (suc n) a b m p q (more {p = u} r x) (more {p = v} r' y) =
       one_performs v cpu t a b p q (subst (λ w. Performs told answers w cpu t a p) (one_quiet cpu t n m u v r r') x) y
 
-  abbrev up : ℕ → ℕ → ℕ
-  up zero n = n
-  up (suc d) n = suc (up d n)
-
   -- Longer runs begin with shorter ones that settle nothing.
-  shorter : (cpu t d n : ℕ) (b : Option Settling) (m q : Core × E) → Runs told answers cpu t (suc (up d n)) b m q → (p : Core × E) × Runs told answers cpu t n None m p
-  shorter cpu t zero n b m q (more {p = u} r x) = (u, r)
-  shorter cpu t (suc d) n b m q (more {p = u} r x) = shorter cpu t d n None m u r
-
-  up_is : (d n : ℕ) → up d n ≡ d + n
-  up_is zero n = omega arith
-  up_is (suc d) n = let h = up_is d n in omega arith
+  shorter : (cpu t n k : ℕ) (b : Option Settling) (m q : Core × E) → n < k → Runs told answers cpu t k b m q → (p : Core × E) × Runs told answers cpu t n None m p
+  shorter cpu t n zero b m q less none = absurd (omega arith)
+  shorter cpu t n (suc k) b m q less (more {p = u} r x) =
+      ⊎_elim (λ (low : n < k). shorter cpu t n k None m u low r) (λ (high : k ≤ n). (u, subst (λ i. Runs told answers cpu t i None m u) (omega arith) r)) (cases_lt n k)
 
   not_shorter : (cpu t n a b : ℕ) (x y : Option Settling) (m k l : Core × E) → Stopped told answers n a x → Stopped told answers n b y → Runs told answers cpu t a x m k → Runs told answers cpu t b y m l → a < b → ⊥
   not_shorter cpu t n a b None None m k l u v p q lt = omega arith
   not_shorter cpu t n a b None (Some y) m k l u v p q lt = omega arith
   not_shorter cpu t n a b (Some x) y m k l u v p q lt =
-      let long : b ≡ suc (up (b - a - 1) a) = let h = up_is (b - a - 1) a in omega arith in
-      let short = shorter cpu t (b - a - 1) a y m l (subst (λ c. Runs told answers cpu t c y m l) long q) in
+      let short = shorter cpu t a b y m l lt q in
       none-some x (sym (one_length cpu t a (Some x) None m k short.0 p short.1).0)
 
   one_stop : (cpu t n a b : ℕ) (x y : Option Settling) (m k l : Core × E) → Stopped told answers n a x → Stopped told answers n b y → Runs told answers cpu t a x m k → Runs told answers cpu t b y m l
