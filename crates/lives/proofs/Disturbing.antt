@@ -1,6 +1,7 @@
 -- Disturbing the thread of a CPU: where it is not held it ends at a restart point, and all is kept.
 use Rattle.std.proofs.Common.{◌≡◌, ℕ, ◌+◌, ◌*◌, ◌<◌, ◌≤◌, cond, length, Some, None, Option, sym, refl, ap, ◌∙◌, subst, inl, inr, ⊎_elim, arith, get_or-set_same}
 use Rattle.std.proofs.lemmas.Bool.{cases_eq, cases_lt, eq-eqb, ne_eqb}
+use Rattle.std.proofs.lemmas.Option.{same_Some}
 use Rattle.std.specs.List.{AllByRecursion}
 use Rattle.image.specs.declared.layout.Section.{Section}
 use Rattle.image.specs.Layout.{Inside}
@@ -17,7 +18,7 @@ use Rattle.model.specs.Calls.{after_verdict}
 use Rattle.model.specs.Ledger.{Ledger}
 use Rattle.lives.proofs.Midway.{words_of}
 use Rattle.lives.proofs.Standing.{RestartPoint, at_entry, at_abort, at_start, Midway, Standing, idle, resting, restarting, midway, ThreadStands, Invariant}
-use Rattle.lives.proofs.Keeping.{some_same, Change, kept}
+use Rattle.lives.proofs.Keeping.{Change, kept}
 use Rattle.lives.proofs.Threads.{TopBecomes, top_is, topped, all_from_top}
 use Rattle.lives.proofs.Wholes.{same_ledger}
 use Rattle.lives.proofs.Instructing.{few_words, known_within, inside_section}
@@ -112,7 +113,7 @@ module _ (l : Ledger) (m : Meaning) (core : Core) (c t : ℕ) (inv : Invariant l
   stands_there = go (inv.standing c c_exists)
     where
       same_thread : (s : ℕ) → (cpu_at core c).current ≡ Some s → s ≡ t
-      same_thread s there = some_same (sym there ∙ inv.current c ∙ on)
+      same_thread s there = same_Some _ _ (sym there ∙ inv.current c ∙ on)
 
       go : Standing core (m.patience c) c → StandsThere
       go (idle none calm) = let clash : None ≡ Some t = sym none ∙ inv.current c ∙ on in cc

@@ -2,6 +2,7 @@
 use Rattle.std.proofs.Common.{◌≡◌, ℕ, zero, suc, ◌+◌, ◌-◌, ◌*◌, ◌%◌, ◌^◌, ◌<◌, ◌≤◌, Bool, true, false, cond, ◌&&◌, eqb, leb, ◌⊎◌, List, [], ◌∷◌, map, length, get_or, set, Some, None, Option, sym, refl, ap, ◌∙◌, subst, inl, inr, ⊎_elim, mod-eq_of_lt, arith, length-set, get_or-set_other, get_or-set_same}
 use lib.Seq.{set-get_or}
 use Rattle.std.proofs.lemmas.Bool.{eq-eqb, ne_eqb, cases_lt, and_parts, leb-true}
+use Rattle.std.proofs.lemmas.Option.{same_Some}
 use Rattle.std.specs.List.{AllByRecursion}
 use Rattle.words.specs.declared.Word.{Word}
 use Rattle.words.specs.declared.Word.TheVariants.{Enter, ReadCpu, Restart}
@@ -25,7 +26,7 @@ use Rattle.lives.proofs.Nodes.{updated_here, settled_nodes, hand_found, hand_not
 use Rattle.lives.proofs.Stacks.{frames_top}
 use Rattle.lives.proofs.Midway.{words_of, word_number, Known, Holds, Valid, ByAnswer, OnlyTheHandsNode, GoesOn, SettlesAs, step_of, does_right}
 use Rattle.lives.proofs.Standing.{TextStands, RestartPoint, at_entry, at_abort, at_start, Midway, Standing, idle, resting, restarting, midway, ThreadStands, Invariant}
-use Rattle.lives.proofs.Keeping.{some_same, once_at_most, Change, after_change, kept}
+use Rattle.lives.proofs.Keeping.{once_at_most, Change, after_change, kept}
 use Rattle.lives.proofs.Threads.{TopBecomes, top_is, topped, all_top, top_waits, dropped_stands, dropped_restarts}
 use Rattle.lives.proofs.Wholes.{same_ledger, whole_elsewhere, settled_elsewhere}
 use Rattle.lives.specs.Apart.{frames_of, section_of_operation, entry_of, does, word_here, performed_as}
@@ -462,7 +463,7 @@ module _ (l : Ledger) (m : Meaning) (core : Core) (c t : ℕ) (inv : Invariant l
       at_point (at_start at armed) calm = reads_cpu n at armed
 
       same_thread : (s : ℕ) → (cpu_at core c).current ≡ Some s → s ≡ t
-      same_thread s there = some_same (sym there ∙ inv.current c ∙ on)
+      same_thread s there = same_Some _ _ (sym there ∙ inv.current c ∙ on)
 
       go : Standing core (m.patience c) c → Right n (performed core c t)
       go (idle none calm) = let clash : None ≡ Some t = sym none ∙ inv.current c ∙ on in cc

@@ -16,10 +16,6 @@ use Rattle.lives.proofs.Midway.{Known, Holds, OnlyTheHandsNode}
 use Rattle.lives.proofs.Standing.{RestartPoint, Midway, Standing, idle, resting, restarting, midway, ThreadStands, Invariant}
 use Rattle.lives.specs.Apart.{frames_of, RingFromASlot}
 
--- An option is one thing.
-pub some_same : {A : Type 0} {x y : A} → Some x ≡ Some y → x ≡ y
-some_same {A} {x} {y} e = cc
-
 -- What is known in a section is not changed by next words that it does not read: those of the node in hand and of the list's
 -- first node.
 module _ (packets : ℕ) (cpu : Cpu) (next later : List ℕ) (thread : Thread)

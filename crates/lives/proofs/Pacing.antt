@@ -1,5 +1,6 @@
 -- The pace of a CPU: what its trace says of how near its thread's operation is to its end.
 use Rattle.std.proofs.Common.{◌≡◌, ℕ, zero, suc, ◌+◌, ◌-◌, ◌*◌, ◌<◌, ◌≤◌, true, false, List, [], ◌∷◌, length, Some, sym, refl, ap, ◌∙◌, subst, arith}
+use Rattle.std.proofs.lemmas.Option.{same_Some}
 use Rattle.std.specs.List.{AllByRecursion}
 use Rattle.calls.specs.declared.Call.{Call}
 use Rattle.calls.specs.declared.Call.TheVariants as call
@@ -12,7 +13,6 @@ use Rattle.model.specs.Ledger.{Ledger}
 use Rattle.model.specs.Claims.{is_thread, Mark, instruction, held, about}
 use Rattle.lives.proofs.Midway.{words_of}
 use Rattle.lives.proofs.Standing.{RestartPoint, at_entry, at_abort, at_start, Invariant}
-use Rattle.lives.proofs.Keeping.{some_same}
 use Rattle.lives.proofs.Instructing.{to_go, from, from_entry, from_abort, from_section, few_words, known_within}
 use Rattle.lives.proofs.Disturbing.{StandsThere, restarts_there, midway_there, stands_there}
 use Rattle.lives.proofs.Traces.{waited, begun, prolonged, pending, InEight, InFive, in_eight_more, in_five_more}
@@ -117,7 +117,7 @@ paced_on l m n core later c t marks image inv on some still nearer paced = recor
 }
   where
     same : (s : ℕ) → l.current c ≡ Some s → t ≡ s
-    same s there = some_same (sym on ∙ there)
+    same s there = same_Some _ _ (sym on ∙ there)
 
     ends : (4 ≤ to_go later.image (top_frame (thread_at later t))) × (to_go later.image (top_frame (thread_at later t)) ≤ 32) × (0 < n.patience c → to_go later.image (top_frame (thread_at later t)) ≤ 20)
     ends = bounds l n later c t inv on still
@@ -156,8 +156,8 @@ paced_held l m core c t x marks inv on some patient concerns paced = record {
   in_eight = in_eight_more (held x) marks paced.in_eight (omega (arith, ends.0, paced.pace t on some));
   in_five = in_five_more (held x) marks paced.in_five (few (waited marks) refl);
   pace = paced.pace;
-  pace_held = λ s there more waits. subst (λ y. 4 * begun (waited marks) + to_go core.image (top_frame (thread_at core y)) ≤ 24) (some_same (sym on ∙ there)) (held_pace (waited marks) refl);
-  at_rest = λ s there none. absurd (omega (arith, some, ap (λ y. (thread_at core y).depth) (some_same (sym on ∙ there)), none));
+  pace_held = λ s there more waits. subst (λ y. 4 * begun (waited marks) + to_go core.image (top_frame (thread_at core y)) ≤ 24) (same_Some _ _ (sym on ∙ there)) (held_pace (waited marks) refl);
+  at_rest = λ s there none. absurd (omega (arith, some, ap (λ y. (thread_at core y).depth) (same_Some _ _ (sym on ∙ there)), none));
   patient = paced.patient;
   concerned = (concerns, paced.concerned);
 }
