@@ -1,8 +1,8 @@
 -- A machine that has just booted: all that holds of every machine with a past holds of it.
-use Rattle.std.proofs.Common.{◌≡◌, ℕ, zero, suc, ◌-◌, ◌<◌, ◌≤◌, Bool, true, false, cond, ◌&&◌, eqb, leb, ◌⊎◌, List, [], ◌∷◌, ◌++◌, map, length, get_or, replicate, Some, None, Ok, Option, sym, refl, ap, ◌∙◌, subst, inl, inr, ⊎_elim, arith}
+use Rattle.std.proofs.Common.{◌≡◌, ℕ, zero, suc, ◌-◌, ◌<◌, ◌≤◌, Bool, true, false, cond, ◌&&◌, eqb, ltb, leb, ◌⊎◌, List, [], ◌∷◌, ◌++◌, map, length, get_or, replicate, Some, None, Ok, Option, sym, refl, ap, ◌∙◌, subst, inl, inr, ⊎_elim, arith}
 use lib.ListN.{get_or-replicate}
 use lib.Seq.{take-append_seam}
-use Rattle.std.proofs.lemmas.Bool.{eqb-true, ne_eqb, lt-leb, cases_eq, and_parts}
+use Rattle.std.proofs.lemmas.Bool.{agree_below_at, eqb-true, ltb-true, ne_eqb, lt-leb, cases_eq, and_parts}
 use Rattle.std.specs.List.{AllByRecursion}
 use Rattle.words.specs.declared.Kind.{Kind}
 use Rattle.words.specs.declared.Kind.TheVariants as kind
@@ -37,7 +37,6 @@ use Rattle.lives.proofs.Nodes.{new_nodes}
 use Rattle.lives.proofs.Standing.{TextStands, RestartPoint, idle, ThreadStands, WithinLimits, Invariant}
 use Rattle.lives.specs.Apart.{frames_of, section_of_operation, entry_of, word_here}
 
--- Nothing is not something.
 -- The number of a word stands for that word.
 word_of_code : (w : Word) → word_of (code w) ≡ Some w
 word_of_code Enter = refl
@@ -141,17 +140,12 @@ split_all [] second all = (tt, all)
 split_all (c ∷ cs) second all = let rest = split_all cs second all.1 in ((all.0, rest.0), rest.1)
 
 -- Sections that pass the comparison are the same.
-same_fields : (one other : Section) → one.start ≡ other.start → one.length ≡ other.length → one.abort ≡ other.abort → one ≡ other
-same_fields one other start length abort =
-    ap (λ (x : ℕ). record { start = x; length = one.length; abort = one.abort }) start
-    ∙ (ap (λ (x : ℕ). record { start = other.start; length = x; abort = one.abort }) length
-    ∙ ap (λ (x : ℕ). record { start = other.start; length = other.length; abort = x }) abort)
-
 same_by_test : (one other : Section) → same_section one other ≡ true → one ≡ other
 same_by_test one other e =
     let p = and_parts (eqb one.start other.start) (eqb one.length other.length && eqb one.abort other.abort) e in
     let q = and_parts (eqb one.length other.length) (eqb one.abort other.abort) p.1 in
-    same_fields one other (eqb-true one.start other.start p.0) (eqb-true one.length other.length q.0) (eqb-true one.abort other.abort q.1)
+    let same : ◌≡◌ {A = Section} (record { start = one.start; length = one.length; abort = one.abort }) (record { start = other.start; length = other.length; abort = other.abort }) =
+    cc (eqb-true one.start other.start p.0, eqb-true one.length other.length q.0, eqb-true one.abort other.abort q.1) in same
 
 -- An exclusion that passes the comparison has the table's sections.
 sections_agree : (m : Meaning) (table : List ℕ) → Shaped m → AllByRecursion Passes (section_checks m.section table kinds) → (d : ℕ) → m.section d ≡ section_at (sections_of table) d
@@ -170,15 +164,7 @@ abbrev eight : List ℕ
 eight = 0 ∷ 1 ∷ 2 ∷ 3 ∷ 4 ∷ 5 ∷ 6 ∷ 7 ∷ []
 
 among_eight : (c : ℕ) → c < 8 → 0 < among c eight
-among_eight zero below = omega arith
-among_eight (suc zero) below = omega arith
-among_eight (suc (suc zero)) below = omega arith
-among_eight (suc (suc (suc zero))) below = omega arith
-among_eight (suc (suc (suc (suc zero)))) below = omega arith
-among_eight (suc (suc (suc (suc (suc zero))))) below = omega arith
-among_eight (suc (suc (suc (suc (suc (suc zero)))))) below = omega arith
-among_eight (suc (suc (suc (suc (suc (suc (suc zero))))))) below = omega arith
-among_eight (suc (suc (suc (suc (suc (suc (suc (suc c)))))))) below = absurd (omega arith)
+among_eight c below = ltb-true 0 (among c eight) (agree_below_at (λ n. ltb 0 (among n eight)) (λ n. true) 8 c refl below)
 
 -- An exclusion that is told left for some CPUs keeps its sections, and has no patience for those CPUs.
 module _ {E : Type 0} (meaning : E → Meaning) (told : E → Notice → E → Type 0) (answers : E → ℕ → ℕ → ℕ → Verdict → Type 0) (has : HasMeaning meaning told answers) where

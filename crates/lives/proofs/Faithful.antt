@@ -30,6 +30,7 @@ use Rattle.lives.proofs.Traces.{pending, in_eight_none, in_five_none, pending_ha
 use Rattle.lives.proofs.Pacing.{Paced}
 use Rattle.lives.proofs.Calls.{fault_among, is_there, cpu_has, ByCore, disturbed, disturbed_current}
 use Rattle.lives.proofs.Living.{LivedWell, stepped_well}
+use Rattle.model.proofs.Calling.{by_current, by_operation}
 use Rattle.lives.specs.Apart.{with_frame, given_thread}
 use Rattle.lives.specs.Whole.{since, WhollyFaithful, EveryLifeIsWhollyFaithful}
 use Rattle.model.specs.declared.state.Frame.{Frame}
@@ -76,14 +77,6 @@ module _ {E : Type 0} (meaning : E → Meaning) (told : E → Notice → E → T
         let refusal : fault ≡ other = cc in
         absurd (false≢true (sym (fault_among (λ f. eqb (number_of f.refusal) 18 ≡ false) tt checks other others is) ∙ ap (λ (f : Fault). eqb (number_of f.refusal) 18) (sym refusal)))
 
-    by_current : (c : ℕ) (P : ℕ → Type 0) (o : Option ℕ) → ByCurrent told answers o P → ((t : ℕ) → P t → HeldOn c) → HeldOn c
-    by_current c P None d then = absurd d
-    by_current c P (Some t) d then = then t d
-
-    by_operation : (c : ℕ) (P : Operation → Type 0) (o : Option Operation) → ByOperation told answers o P → ((operation : Operation) → P operation → HeldOn c) → HeldOn c
-    by_operation c P None d then = absurd d
-    by_operation c P (Some operation) d then = then operation d
-
     granted_not : (c : ℕ) (exists : c < m.0.sizes.cpus) (rest : Core → Core) (k : Core × E) (o : Option Core) → ByCore meaning told answers has l m c inv exists o → Granted told answers m c o rest (refused fault) k → HeldOn c
     granted_not c exists rest k None h g = (h.t, h.on, h.patient)
     granted_not c exists rest k (Some later) h g = cc
@@ -103,11 +96,11 @@ module _ {E : Type 0} (meaning : E → Meaning) (told : E → Notice → E → T
     held_where (call.Run cpu) k step c about_it =
         not_by_checks (has_cpu m.0 cpu ∷ has_current m.0 cpu ∷ has_work m.0 cpu ∷ []) k _ c (refl, (refl, (refl, tt)))
         (λ passed d.
-        by_current c (λ t. (settling : Option Settling) × (refused fault ≡ ran settling) × Performs told answers m cpu t settling k) (cpu_at m.0 cpu).current d (λ t p. cc)) _ refl step
+        by_current told answers (cpu_at m.0 cpu).current (λ t. (settling : Option Settling) × (refused fault ≡ ran settling) × Performs told answers m cpu t settling k) (HeldOn c) d (λ t p. cc)) _ refl step
     held_where (call.Advance cpu n) k step c about_it =
         not_by_checks (has_cpu m.0 cpu ∷ has_current m.0 cpu ∷ has_work m.0 cpu ∷ []) k _ c (refl, (refl, (refl, tt)))
         (λ passed d.
-        by_current c (λ t. (count : ℕ) × (settling : Option Settling) × (refused fault ≡ advanced count settling) × Stopped told answers n count settling × Runs told answers cpu t count settling m k) (cpu_at m.0 cpu).current d
+        by_current told answers (cpu_at m.0 cpu).current (λ t. (count : ℕ) × (settling : Option Settling) × (refused fault ≡ advanced count settling) × Stopped told answers n count settling × Runs told answers cpu t count settling m k) (HeldOn c) d
         (λ t p. cc)) _ refl step
     held_where (call.Switch cpu t) k step c about_it =
         not_by_checks (has_cpu m.0 cpu ∷ has_thread m.0 t ∷ not_current m.0 t ∷ []) k (Changes cpu (Some t) k) c (refl, (refl, (refl, tt)))
@@ -126,7 +119,7 @@ module _ {E : Type 0} (meaning : E → Meaning) (told : E → Notice → E → T
     held_where (call.Signal t raw) k step c about_it =
         not_by_checks (has_thread m.0 t ∷ is_operation m.0 raw ∷ has_room m.0 t ∷ []) k _ c (refl, (refl, (refl, tt)))
         (λ passed d.
-        by_operation c (λ operation. Signals told answers m t operation (cpu_of m.0 t) (refused fault) k) (operation_of m.0.sizes raw) d
+        by_operation told answers (operation_of m.0.sizes raw) (λ operation. Signals told answers m t operation (cpu_of m.0 t) (refused fault) k) (HeldOn c) d
         (λ operation s. signals_not t operation c (is_there m.0 t (l.current c) about_it) k (cpu_of m.0 t) refl s)) _ refl step
 
   -- All claims, of a machine with a past.

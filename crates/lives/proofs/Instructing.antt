@@ -1,7 +1,7 @@
 -- One instruction keeps what holds of every machine with a past, and brings the operation nearer to its end.
 use Rattle.std.proofs.Common.{◌≡◌, ℕ, zero, suc, ◌+◌, ◌-◌, ◌*◌, ◌%◌, ◌^◌, ◌<◌, ◌≤◌, Bool, true, false, cond, ◌&&◌, eqb, leb, ◌⊎◌, List, [], ◌∷◌, map, length, get_or, set, Some, None, Option, sym, refl, ap, ◌∙◌, subst, inl, inr, ⊎_elim, mod-eq_of_lt, arith, length-set, get_or-set_other, get_or-set_same}
 use lib.Seq.{set-get_or}
-use Rattle.std.proofs.lemmas.Bool.{eq-eqb, ne_eqb, cases_lt, and_parts, leb-true}
+use Rattle.std.proofs.lemmas.Bool.{cond-false, eq-eqb, ne_eqb, cases_lt, and_parts, leb-true, true_from_ne_false}
 use Rattle.std.proofs.lemmas.Option.{same_Some}
 use Rattle.std.specs.List.{AllByRecursion}
 use Rattle.words.specs.declared.Word.{Word}
@@ -21,7 +21,7 @@ use Rattle.model.specs.declared.state.Settling.{Settling}
 use Rattle.model.specs.State.{no_cpu, no_thread, core_next, put_cpu, put_thread, thread_at, cpu_at, top_frame, dropped, descriptor_of_operation}
 use Rattle.model.specs.Words.{Effect, Performed, progress, notice_of, settled_as, performed}
 use Rattle.model.specs.Ledger.{Ledger, Waiting, Fed, updated, with_waiting, does_whole, settle_top, settle_on}
-use Rattle.model.specs.Claims.{among}
+use Rattle.model.specs.Claims.{among, found}
 use Rattle.lives.proofs.Nodes.{updated_here, settled_nodes, hand_found, hand_not_listed}
 use Rattle.lives.proofs.Stacks.{frames_top}
 use Rattle.lives.proofs.Midway.{words_of, word_number, Known, Holds, Valid, ByAnswer, OnlyTheHandsNode, GoesOn, SettlesAs, step_of, does_right}
@@ -422,15 +422,11 @@ module _ (l : Ledger) (m : Meaning) (core : Core) (c t : ℕ) (inv : Invariant l
   hands_node : (node : ℕ) → l.hands t ≡ Some node → (0 < node) × (node < length core.next) × (among node (l.lists c) ≡ 0)
   hands_node node held =
       let there = hand_found core.sizes l t node t_exists held in
-      let known = one_of (leb 1 node && leb node core.sizes.nodes) (omega (arith, inv.nodes node)) in
+      let known = true_from_ne_false (leb 1 node && leb node core.sizes.nodes) (λ e. let none : found core.sizes l node ≡ 0 = inv.nodes node ∙ cond-false (leb 1 node && leb node core.sizes.nodes) 1 0 e in omega arith) in
       let both = and_parts (leb 1 node) (leb node core.sizes.nodes) known in
       let least = leb-true 1 node both.0 in
       let most = leb-true node core.sizes.nodes both.1 in
       (least, omega (arith, inv.limits.nodes, inv.next_words), hand_not_listed core.sizes l t c node t_exists c_exists (once_at_most l m core inv node) held)
-    where
-      one_of : (b : Bool) → 1 ≤ cond b 1 0 → b ≡ true
-      one_of true h = refl
-      one_of false h = absurd (omega arith)
 
   -- The thread's top operation is one that the machine can have.
   valid_operation : Valid core.sizes operation

@@ -1,6 +1,7 @@
 -- The pace of a CPU: what its trace says of how near its thread's operation is to its end.
 use Rattle.std.proofs.Common.{◌≡◌, ℕ, zero, suc, ◌+◌, ◌-◌, ◌*◌, ◌<◌, ◌≤◌, true, false, List, [], ◌∷◌, length, Some, sym, refl, ap, ◌∙◌, subst, arith}
 use Rattle.std.proofs.lemmas.Option.{same_Some}
+use Rattle.std.proofs.lemmas.List.Elements.{recursion_from_All, All-weaker, All-from_recursion}
 use Rattle.std.specs.List.{AllByRecursion}
 use Rattle.calls.specs.declared.Call.{Call}
 use Rattle.calls.specs.declared.Call.TheVariants as call
@@ -75,12 +76,11 @@ about_same l k c (call.Switch cpu thread) same = refl
 about_same l k c (call.Idle cpu) same = refl
 about_same l k c (call.Signal thread raw) same = ap (is_thread thread) same
 
-all_mapped : {A : Type 0} (P Q : A → Type 0) (xs : List A) → ((x : A) → P x → Q x) → AllByRecursion P xs → AllByRecursion Q xs
-all_mapped P Q [] f all = tt
-all_mapped P Q (x ∷ xs) f all = (f x all.0, all_mapped P Q xs f all.1)
+abbrev About : Ledger → ℕ → Call → Type 0
+About l c x = about l c x ≡ true
 
 pub concerned_same : (l k : Ledger) (c : ℕ) (calls : List Call) → k.current c ≡ l.current c → AllByRecursion (λ (x : Call). about l c x ≡ true) calls → AllByRecursion (λ (x : Call). about k c x ≡ true) calls
-concerned_same l k c calls same all = all_mapped (λ (x : Call). about l c x ≡ true) (λ (x : Call). about k c x ≡ true) calls (λ x e. about_same l k c x same ∙ e) all
+concerned_same l k c calls same all = recursion_from_All (About k c) calls (All-weaker (About l c) (About k c) (λ x e. about_same l k c x same ∙ e) calls (All-from_recursion (About l c) calls all))
 
 -- A CPU whose thread is not touched.
 pub untouched : (l k : Ledger) (m n : Meaning) (core later : Core) (c : ℕ) (marks : List Mark) → later.image ≡ core.image → k.current c ≡ l.current c
