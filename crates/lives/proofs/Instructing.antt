@@ -25,7 +25,7 @@ use Rattle.model.specs.Claims.{among, found}
 use Rattle.lives.proofs.Nodes.{updated_here, settled_nodes, hand_found, hand_not_listed}
 use Rattle.lives.proofs.Stacks.{frames_top}
 use Rattle.lives.proofs.Midway.{words_of, word_number, Known, Holds, Valid, ByAnswer, OnlyTheHandsNode, GoesOn, SettlesAs, step_of, does_right}
-use Rattle.lives.proofs.Standing.{TextStands, RestartPoint, at_entry, at_abort, at_start, Midway, Standing, idle, resting, restarting, midway, ThreadStands, Invariant}
+use Rattle.lives.proofs.Standing.{TextStands, RestartPoint, at_entry, at_abort, at_start, Midway, Standing, idle, resting, restarting, midway, ThreadStands, Invariant, StandsThere, restarts_there, midway_there, stands_there}
 use Rattle.lives.proofs.Keeping.{once_at_most, Change, after_change, kept}
 use Rattle.lives.proofs.Threads.{TopBecomes, top_is, topped, all_top, top_waits, dropped_stands, dropped_restarts}
 use Rattle.lives.proofs.Wholes.{same_ledger, whole_elsewhere, settled_elsewhere}
@@ -451,18 +451,13 @@ module _ (l : Ledger) (m : Meaning) (core : Core) (c t : ℕ) (inv : Invariant l
 
   -- Wherever the thread stands.
   pub instructed : (n : Meaning) → Right n (performed core c t)
-  instructed n = go (inv.standing c c_exists)
+  instructed n = go (stands_there l m core c t inv on some)
     where
       at_point : RestartPoint core.image (top_frame thread) → m.patience c ≡ 0 → Right n (performed core c t)
       at_point (at_entry at unarmed) calm = enters n at calm
       at_point (at_abort at unarmed) calm = restarts n at unarmed calm
       at_point (at_start at armed) calm = reads_cpu n at armed
 
-      same_thread : (s : ℕ) → (cpu_at core c).current ≡ Some s → s ≡ t
-      same_thread s there = same_Some _ _ (sym there ∙ inv.current c ∙ on)
-
-      go : Standing core (m.patience c) c → Right n (performed core c t)
-      go (idle none calm) = let clash : None ≡ Some t = sym none ∙ inv.current c ∙ on in cc
-      go (resting s there rests calm) = let e = ap (λ x. (thread_at core x).depth) (same_thread s there) in absurd (omega (arith, some))
-      go (restarting s there more point calm) = at_point (subst (λ x. RestartPoint core.image (top_frame (thread_at core x))) (same_thread s there) point) calm
-      go (midway s there more at) = midway_right n (subst (λ x. Midway core.sizes.packets core.image c (cpu_at core c) core.next (thread_at core x)) (same_thread s there) at)
+      go : StandsThere m core c t → Right n (performed core c t)
+      go (restarts_there point calm) = at_point point calm
+      go (midway_there at) = midway_right n at

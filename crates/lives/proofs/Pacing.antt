@@ -1,5 +1,5 @@
 -- The pace of a CPU: what its trace says of how near its thread's operation is to its end.
-use Rattle.std.proofs.Common.{◌≡◌, ℕ, zero, suc, ◌+◌, ◌-◌, ◌*◌, ◌<◌, ◌≤◌, true, false, List, [], ◌∷◌, length, Some, sym, refl, ap, ◌∙◌, subst, arith}
+use Rattle.std.proofs.Common.{◌≡◌, ℕ, zero, suc, ◌+◌, ◌-◌, ◌*◌, ◌<◌, ◌≤◌, max, true, false, List, [], ◌∷◌, length, Some, sym, refl, ap, ◌∙◌, subst, arith}
 use Rattle.std.proofs.lemmas.Option.{same_Some}
 use Rattle.std.proofs.lemmas.List.Elements.{recursion_from_All, All-weaker, All-from_recursion}
 use Rattle.std.specs.List.{AllByRecursion}
@@ -13,10 +13,9 @@ use Rattle.model.specs.State.{thread_at, cpu_at, top_frame}
 use Rattle.model.specs.Ledger.{Ledger}
 use Rattle.model.specs.Claims.{is_thread, Mark, instruction, held, about}
 use Rattle.lives.proofs.Midway.{words_of}
-use Rattle.lives.proofs.Standing.{RestartPoint, at_entry, at_abort, at_start, Invariant}
+use Rattle.lives.proofs.Standing.{RestartPoint, at_entry, at_abort, at_start, Invariant, StandsThere, restarts_there, midway_there, stands_there}
 use Rattle.lives.proofs.Instructing.{to_go, from, from_entry, from_abort, from_section, few_words, known_within}
-use Rattle.lives.proofs.Disturbing.{StandsThere, restarts_there, midway_there, stands_there}
-use Rattle.lives.proofs.Traces.{waited, begun, prolonged, pending, InEight, InFive, in_eight_more, in_five_more}
+use Rattle.lives.proofs.Traces.{waited, prolonged, pending, InEight, InFive, in_eight_more, in_five_more}
 use Rattle.lives.specs.Apart.{section_of_operation}
 use Rattle.lives.specs.Whole.{since}
 
@@ -48,7 +47,7 @@ module _ (l : Ledger) (m : Meaning) (core : Core) (c t : ℕ) (inv : Invariant l
           ap (from core.image inv.text operation) (at ∙ sym first) ∙ from_section core.image inv.text operation 0 (omega (arith, few.0)) in
           (omega (arith, is, few.0), omega (arith, is, few.1), λ patient. absurd (omega (arith, patient, calm)))
 
-      go : StandsThere l m core c t inv on some → Bounds
+      go : StandsThere m core c t → Bounds
       go (restarts_there at calm) = point at calm
       go (midway_there at) =
           let few = few_words operation in
@@ -156,7 +155,7 @@ paced_held l m core c t x marks inv on some patient concerns paced = record {
   in_eight = in_eight_more (held x) marks paced.in_eight (omega (arith, ends.0, paced.pace t on some));
   in_five = in_five_more (held x) marks paced.in_five (few (waited marks) refl);
   pace = paced.pace;
-  pace_held = λ s there more waits. subst (λ y. 4 * begun (waited marks) + to_go core.image (top_frame (thread_at core y)) ≤ 24) (same_Some _ _ (sym on ∙ there)) (held_pace (waited marks) refl);
+  pace_held = λ s there more waits. subst (λ y. 4 * max 1 (waited marks) + to_go core.image (top_frame (thread_at core y)) ≤ 24) (same_Some _ _ (sym on ∙ there)) (held_pace (waited marks) refl);
   at_rest = λ s there none. absurd (omega (arith, some, ap (λ y. (thread_at core y).depth) (same_Some _ _ (sym on ∙ there)), none));
   patient = paced.patient;
   concerned = (concerns, paced.concerned);
@@ -165,11 +164,11 @@ paced_held l m core c t x marks inv on some patient concerns paced = record {
     ends : (4 ≤ to_go core.image (top_frame (thread_at core t))) × (to_go core.image (top_frame (thread_at core t)) ≤ 32) × (0 < m.patience c → to_go core.image (top_frame (thread_at core t)) ≤ 20)
     ends = bounds l m core c t inv on some
 
-    held_pace : (w : ℕ) → waited marks ≡ w → 4 * begun w + to_go core.image (top_frame (thread_at core t)) ≤ 24
+    held_pace : (w : ℕ) → waited marks ≡ w → 4 * max 1 w + to_go core.image (top_frame (thread_at core t)) ≤ 24
     held_pace zero is = omega (arith, ends.2 patient)
     held_pace (suc w) is = omega (arith, is, paced.pace_held t on some (omega (arith, is)))
 
-    few : (w : ℕ) → waited marks ≡ w → begun w ≤ 5
+    few : (w : ℕ) → waited marks ≡ w → max 1 w ≤ 5
     few w is = omega (arith, ends.0, held_pace w is)
 
 -- A thread at rest gets an operation.

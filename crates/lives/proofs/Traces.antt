@@ -1,6 +1,6 @@
 -- What has happened on a CPU, counted: how long it is since an instruction settled, how long a held call has waited, and
 -- which calls are pending. Bounds on the two counts, kept mark by mark, bound every window of the trace.
-use Rattle.std.proofs.Common.{◌≡◌, ℕ, zero, suc, ◌+◌, ◌<◌, ◌≤◌, true, false, ◌⊎◌, List, [], ◌∷◌, ◌++◌, replicate, sym, refl, ap, ◌∙◌, inl, inr, ⊎_elim, arith}
+use Rattle.std.proofs.Common.{◌≡◌, ℕ, zero, suc, ◌+◌, ◌<◌, ◌≤◌, max, true, false, ◌⊎◌, List, [], ◌∷◌, ◌++◌, replicate, sym, refl, ap, ◌∙◌, inl, inr, ⊎_elim, arith}
 use mathlib.Core.List.{tail}
 use Rattle.std.proofs.lemmas.Bool.{false≢true}
 use Rattle.std.specs.List.{AllByRecursion}
@@ -10,10 +10,6 @@ use Rattle.lives.specs.Whole.{since}
 
 -- A wait is 0 where no call waits, else one more than the instructions since the call was held. A held call begins a wait
 -- where there is none; an instruction that does not settle prolongs one where there is one.
-abbrev pub begun : ℕ → ℕ
-begun zero = 1
-begun (suc n) = suc n
-
 abbrev pub prolonged : ℕ → ℕ
 prolonged zero = 0
 prolonged (suc n) = suc (suc n)
@@ -24,7 +20,7 @@ waited [] = 0
 waited (instruction true ∷ marks) = 0
 waited (instruction false ∷ marks) = prolonged (waited marks)
 waited (granted ∷ marks) = 0
-waited (held c ∷ marks) = begun (waited marks)
+waited (held c ∷ marks) = max 1 (waited marks)
 
 -- The calls that were held since the last grant.
 abbrev pub pending : List Mark → List Call
@@ -41,15 +37,7 @@ InEight marks = (after window before : List Mark) → marks ≡ after ++ (window
 abbrev pub InFive : List Mark → Type 0
 InFive marks = (c : Call) (after window before : List Mark) → marks ≡ after ++ (window ++ (held c ∷ before)) → NothingGranted window → instructions window ≡ 5 → Settles window
 
--- After a held call there is a wait, at least as long as before; an instruction makes a wait that there is longer by one.
-pub begun_some : (n : ℕ) → 1 ≤ begun n
-begun_some zero = omega arith
-begun_some (suc n) = omega arith
-
-pub begun_least : (n : ℕ) → n ≤ begun n
-begun_least zero = omega arith
-begun_least (suc n) = omega arith
-
+-- An instruction makes a wait that there is longer by one.
 pub prolonged_some : (n : ℕ) → 0 < n → prolonged n ≡ suc n
 prolonged_some zero some = absurd (omega arith)
 prolonged_some (suc n) some = refl
@@ -89,7 +77,7 @@ since_unsettled (held c ∷ window) before nothing unsettled =
     omega arith
 
 pub waited_unsettled : (c : Call) (window before : List Mark) → NothingGranted window → (Settles window → ⊥) → 1 + instructions window ≤ waited (window ++ (held c ∷ before))
-waited_unsettled c [] before nothing unsettled = omega (arith, begun_some (waited before))
+waited_unsettled c [] before nothing unsettled = omega arith
 waited_unsettled c (instruction true ∷ window) before nothing unsettled = absurd (unsettled (settles_here window))
 waited_unsettled c (instruction false ∷ window) before nothing unsettled =
     let rest = waited_unsettled c window before nothing.1 (λ s. unsettled (settles_older (instruction false) window s)) in
@@ -97,7 +85,7 @@ waited_unsettled c (instruction false ∷ window) before nothing unsettled =
 waited_unsettled c (granted ∷ window) before nothing unsettled = absurd nothing.0
 waited_unsettled c (held d ∷ window) before nothing unsettled =
     let rest = waited_unsettled c window before nothing.1 (λ s. unsettled (settles_older (held d) window s)) in
-    omega (arith, begun_least (waited (window ++ (held c ∷ before))))
+    omega arith
 
 -- The instructions of two traces in a row are counted together.
 pub instructions_append : (xs ys : List Mark) → instructions (xs ++ ys) ≡ instructions xs + instructions ys
