@@ -1,5 +1,5 @@
 -- The pace of a CPU: what its trace says of how near its thread's operation is to its end.
-use Rattle.std.proofs.Common.{◌≡◌, ℕ, zero, suc, ◌+◌, ◌-◌, ◌*◌, ◌<◌, ◌≤◌, max, true, false, List, [], ◌∷◌, length, Some, sym, refl, ap, ◌∙◌, subst, arith}
+use Rattle.std.proofs.Common.{◌≡◌, ℕ, zero, suc, ◌+◌, ◌-◌, ◌*◌, ◌<◌, ◌≤◌, max, min, true, false, List, [], ◌∷◌, length, Some, sym, refl, ap, ◌∙◌, subst, arith}
 use Rattle.std.proofs.lemmas.Option.{same_Some}
 use Rattle.std.proofs.lemmas.List.Elements.{recursion_from_All, All-weaker, All-from_recursion}
 use Rattle.std.specs.List.{AllByRecursion}
@@ -15,7 +15,7 @@ use Rattle.model.specs.Claims.{is_thread, Mark, instruction, held, about}
 use Rattle.lives.proofs.Midway.{words_of}
 use Rattle.lives.proofs.Standing.{RestartPoint, at_entry, at_abort, at_start, Invariant, StandsThere, restarts_there, midway_there, stands_there}
 use Rattle.lives.proofs.Instructing.{to_go, from, from_entry, from_abort, from_section, few_words, known_within}
-use Rattle.lives.proofs.Traces.{waited, prolonged, pending, InEight, InFive, in_eight_more, in_five_more}
+use Rattle.lives.proofs.Traces.{waited, pending, InEight, InFive, in_eight_more, in_five_more}
 use Rattle.lives.specs.Apart.{section_of_operation}
 use Rattle.lives.specs.Whole.{since}
 
@@ -107,9 +107,9 @@ pub paced_on : (l : Ledger) (m n : Meaning) (core later : Core) (c t : ℕ) (mar
     → to_go core.image (top_frame (thread_at later t)) + 4 ≡ to_go core.image (top_frame (thread_at core t)) → Paced l m core c marks → Paced l n later c (instruction false ∷ marks)
 paced_on l m n core later c t marks image inv on some still nearer paced = record {
   in_eight = in_eight_more (instruction false) marks paced.in_eight (omega (arith, ends.0, pace));
-  in_five = in_five_more (instruction false) marks paced.in_five (few (waited marks) refl);
+  in_five = in_five_more (instruction false) marks paced.in_five (grind (arith, ends.0, held_pace));
   pace = λ s there more. subst (λ x. 4 * suc (since marks) + to_go later.image (top_frame (thread_at later x)) ≤ 32) (same s there) pace;
-  pace_held = λ s there more waits. subst (λ x. 4 * prolonged (waited marks) + to_go later.image (top_frame (thread_at later x)) ≤ 24) (same s there) (held_pace (waited marks) refl waits);
+  pace_held = λ s there more waits. subst (λ x. 4 * (waited marks + min 1 (waited marks)) + to_go later.image (top_frame (thread_at later x)) ≤ 24) (same s there) (held_pace (omega arith));
   at_rest = λ s there none. absurd (omega (arith, still, ap (λ x. (thread_at later x).depth) (same s there), none));
   patient = λ s there h. omega arith;
   concerned = paced.concerned;
@@ -127,13 +127,8 @@ paced_on l m n core later c t marks image inv on some still nearer paced = recor
     pace : 4 * suc (since marks) + to_go later.image (top_frame (thread_at later t)) ≤ 32
     pace = omega (arith, left_is, nearer, paced.pace t on some)
 
-    held_pace : (w : ℕ) → waited marks ≡ w → 0 < prolonged w → 4 * prolonged w + to_go later.image (top_frame (thread_at later t)) ≤ 24
-    held_pace zero is more = absurd (omega (arith, more))
-    held_pace (suc w) is more = omega (arith, left_is, nearer, is, paced.pace_held t on some (omega (arith, is)))
-
-    few : (w : ℕ) → waited marks ≡ w → prolonged w ≤ 5
-    few zero is = omega arith
-    few (suc w) is = omega (arith, ends.0, held_pace (suc w) is (omega arith))
+    held_pace : 0 < waited marks → 4 * (waited marks + min 1 (waited marks)) + to_go later.image (top_frame (thread_at later t)) ≤ 24
+    held_pace waits = omega (arith, left_is, nearer, paced.pace_held t on some waits)
 
 -- A settling, or a call that is granted: the count begins anew.
 pub paced_anew : (l k : Ledger) (n : Meaning) (later : Core) (c : ℕ) (mark : Mark) (marks : List Mark) → InEight marks → InFive marks → since (mark ∷ marks) ≡ 0 → waited (mark ∷ marks) ≡ 0
@@ -153,9 +148,9 @@ pub paced_held : (l : Ledger) (m : Meaning) (core : Core) (c t : ℕ) (x : Call)
     → Paced l m core c marks → Paced l m core c (held x ∷ marks)
 paced_held l m core c t x marks inv on some patient concerns paced = record {
   in_eight = in_eight_more (held x) marks paced.in_eight (omega (arith, ends.0, paced.pace t on some));
-  in_five = in_five_more (held x) marks paced.in_five (few (waited marks) refl);
+  in_five = in_five_more (held x) marks paced.in_five (omega (arith, ends.0, held_pace));
   pace = paced.pace;
-  pace_held = λ s there more waits. subst (λ y. 4 * max 1 (waited marks) + to_go core.image (top_frame (thread_at core y)) ≤ 24) (same_Some _ _ (sym on ∙ there)) (held_pace (waited marks) refl);
+  pace_held = λ s there more waits. subst (λ y. 4 * max 1 (waited marks) + to_go core.image (top_frame (thread_at core y)) ≤ 24) (same_Some _ _ (sym on ∙ there)) held_pace;
   at_rest = λ s there none. absurd (omega (arith, some, ap (λ y. (thread_at core y).depth) (same_Some _ _ (sym on ∙ there)), none));
   patient = paced.patient;
   concerned = (concerns, paced.concerned);
@@ -164,12 +159,8 @@ paced_held l m core c t x marks inv on some patient concerns paced = record {
     ends : (4 ≤ to_go core.image (top_frame (thread_at core t))) × (to_go core.image (top_frame (thread_at core t)) ≤ 32) × (0 < m.patience c → to_go core.image (top_frame (thread_at core t)) ≤ 20)
     ends = bounds l m core c t inv on some
 
-    held_pace : (w : ℕ) → waited marks ≡ w → 4 * max 1 w + to_go core.image (top_frame (thread_at core t)) ≤ 24
-    held_pace zero is = omega (arith, ends.2 patient)
-    held_pace (suc w) is = omega (arith, is, paced.pace_held t on some (omega (arith, is)))
-
-    few : (w : ℕ) → waited marks ≡ w → max 1 w ≤ 5
-    few w is = omega (arith, ends.0, held_pace w is)
+    held_pace : 4 * max 1 (waited marks) + to_go core.image (top_frame (thread_at core t)) ≤ 24
+    held_pace = grind (arith, ends.2 patient, paced.pace_held t on some)
 
 -- A thread at rest gets an operation.
 pub paced_enlisted : (l k : Ledger) (m : Meaning) (core later : Core) (c t : ℕ) (marks : List Mark) → k.current c ≡ l.current c → l.current c ≡ Some t → (thread_at core t).depth ≡ 0 → 0 < (thread_at later t).depth
