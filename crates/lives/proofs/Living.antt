@@ -39,9 +39,9 @@ use Rattle.lives.specs.Apart.{frames_of, with_frame, given_thread}
 abbrev NotHeld : Fault → Type 0
 NotHeld fault = eqb (number_of fault.refusal) 18 ≡ false
 
-some_is : (o : Option ℕ) → is_some o ≡ false → o ≡ None
-some_is None e = refl
-some_is (Some x) e = cc
+pub none_if_not_some : {A : Type 0} (o : Option A) → is_some o ≡ false → o ≡ None
+none_if_not_some None e = refl
+none_if_not_some (Some x) e = cc
 
 quiet_marks : (count : ℕ) → instructions_of count None ≡ replicate count (instruction false)
 quiet_marks zero = refl
@@ -232,7 +232,7 @@ module _ {E : Type 0} (meaning : E → Meaning) (told : E → Notice → E → T
         checked (call.Switch c t) (has_cpu core c ∷ has_thread core t ∷ not_current core t ∷ []) r k (Changes c (Some t) r k) (refl, (refl, (refl, tt)))
         (λ passed d.
         let exists : c < sizes.cpus = ltb-true c sizes.cpus passed.0 in
-        let nowhere : cpu_of core t ≡ None = some_is (cpu_of core t) (not-true (is_some (cpu_of core t)) passed.1.1.0) in
+        let nowhere : cpu_of core t ≡ None = none_if_not_some (cpu_of core t) (not-true (is_some (cpu_of core t)) passed.1.1.0) in
         changed (call.Switch c t) c (Some t) exists
         (λ s is. (
           subst (λ x. x < sizes.threads) (same_Some _ _ is) (ltb-true t sizes.threads passed.1.0),
