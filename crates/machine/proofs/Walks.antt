@@ -21,14 +21,14 @@ module _ (answers : ℕ → Bool → Type 0) (leads : ℕ → ℕ → Type 0) wh
       (ends : ℕ → Bool) (onward : ℕ → ℕ) → ((x : ℕ) (b : Bool) → answers x b → b ≡ ends x) → ((x y : ℕ) → leads x y → y ≡ onward x)
       → reached ends onward place left ≡ reached ends onward first steps
 
-  pub walk_ends : (place left first steps : ℕ) → answers place true → OnTheWay place left first steps → Walks answers leads first steps None
-  walk_ends place left first steps answered way ends onward tests goes = sym (reached_ends ends onward place left (sym (tests place true answered))) ∙ way ends onward tests goes
+  pub walk_ends : (place left first steps : ℕ) {b : Bool} → answers place b → b ≡ true → OnTheWay place left first steps → Walks answers leads first steps None
+  walk_ends place left first steps {b} answered is way ends onward tests goes = sym (reached_ends ends onward place left (sym (tests place b answered) ∙ is)) ∙ way ends onward tests goes
 
-  pub walk_arrives : (place left first steps : ℕ) → answers place false → left ≡ 0 → OnTheWay place left first steps → Walks answers leads first steps (Some place)
-  walk_arrives place left first steps answered none way ends onward tests goes =
-      sym (ap (reached ends onward place) none ∙ reached_here ends onward place (sym (tests place false answered))) ∙ way ends onward tests goes
+  pub walk_arrives : (place left first steps : ℕ) {b : Bool} → answers place b → b ≡ false → left ≡ 0 → OnTheWay place left first steps → Walks answers leads first steps (Some place)
+  walk_arrives place left first steps {b} answered is none way ends onward tests goes =
+      sym (ap (reached ends onward place) none ∙ reached_here ends onward place (sym (tests place b answered) ∙ is)) ∙ way ends onward tests goes
 
-  pub walk_goes_on : (place further left less first steps : ℕ) → answers place false → leads place further → 0 < left → less ≡ left - 1 → OnTheWay place left first steps → OnTheWay further less first steps
-  walk_goes_on place further left less first steps answered led some one way ends onward tests goes =
-      sym (ap (reached ends onward place) (omega arith) ∙ reached_on ends onward place less (sym (tests place false answered)) ∙ ap (λ p. reached ends onward p less) (sym (goes place further led)))
+  pub walk_goes_on : (place further left less first steps : ℕ) {b : Bool} → answers place b → b ≡ false → leads place further → 0 < left → less ≡ left - 1 → OnTheWay place left first steps → OnTheWay further less first steps
+  walk_goes_on place further left less first steps {b} answered is led some one way ends onward tests goes =
+      sym (ap (reached ends onward place) (omega arith) ∙ reached_on ends onward place less (sym (tests place b answered) ∙ is) ∙ ap (λ p. reached ends onward p less) (sym (goes place further led)))
       ∙ way ends onward tests goes

@@ -11,11 +11,11 @@ loop-done-init g c = none
 pub returns-then-is_some : goal.returns-then-is_some
 returns-then-is_some g c = record {
   stopped = stopped_short g.E.Exclusion.told g.E.Exclusion.answers c.args.instructions c.loop-done.done c.perform_one-settling.result (sym c.is_some.ensures ∙ c.if-is_some.true) c.loop-done-test.true;
-  runs = one_more g.E.Exclusion.told g.E.Exclusion.answers c.args.cpu c.args.t c.loop-done.done _ _ _ _ c.loop-done.invariant c.perform_one-settling.ensures.performs;
+  runs = one_more c.loop-done.invariant c.perform_one-settling.ensures.performs;
 }
 
 pub loop-done-preserved : goal.loop-done-preserved
 loop-done-preserved g c =
     subst (λ (s : Option Settling). Runs g.E.Exclusion.told g.E.Exclusion.answers c.args.cpu c.args.t (c.loop-done.done + 1) s (c.args.self.now.core, c.args.self.now.exclusion) (c.perform_one-settling.new.self.core, c.perform_one-settling.new.self.exclusion))
     (none_if_not_some c.perform_one-settling.result (sym c.is_some.ensures ∙ c.if-is_some.false))
-    (one_more g.E.Exclusion.told g.E.Exclusion.answers c.args.cpu c.args.t c.loop-done.done _ _ _ _ c.loop-done.invariant c.perform_one-settling.ensures.performs)
+    (one_more c.loop-done.invariant c.perform_one-settling.ensures.performs)
