@@ -1,6 +1,7 @@
 -- A CPU gets another thread or none, and a thread gets another operation.
 use Rattle.std.proofs.Common.{◌≡◌, ℕ, ◌<◌, ◌≤◌, ◌⊎◌, ◌∷◌, Some, None, Option, sym, refl, ap, ◌∙◌, subst, inl, inr, ⊎_elim, arith, length-set, get_or-set_other, get_or-set_same}
 use Rattle.std.proofs.lemmas.Bool.{cases_eq, cases_lt}
+use Rattle.std.proofs.lemmas.Option.{none-some, same_Some}
 use Rattle.std.specs.List.{AllByRecursion}
 use Rattle.exclusion.specs.Meaning.{Meaning}
 use Rattle.model.specs.declared.state.Operation.{Operation}
@@ -14,12 +15,9 @@ use Rattle.lives.proofs.Nodes.{updated_here, updated_else}
 use Rattle.lives.proofs.Stacks.{Whole}
 use Rattle.lives.proofs.Midway.{Holds, Valid}
 use Rattle.lives.proofs.Standing.{RestartPoint, at_entry, Midway, Standing, idle, resting, restarting, midway, ThreadStands, Invariant}
-use Rattle.lives.proofs.Keeping.{some_same}
 use Rattle.lives.proofs.Threads.{all_top, pushed_stands, pushed_frames}
 use Rattle.lives.specs.Apart.{begun, frames_of}
 
-none_some : {P : Type 0} {x : ℕ} → ◌≡◌ {A = Option ℕ} None (Some x) → P
-none_some e = let z : ◌≡◌ {A = ℕ} 0 1 = cc in absurd (omega arith)
 
 -- A thread all of whose frames stand at restart points, on a CPU without patience.
 pub calm_standing : (core : Core) (patience c t : ℕ) → (cpu_at core c).current ≡ Some t → patience ≡ 0 → Whole (thread_at core t) → AllByRecursion (RestartPoint core.image) (frames_of (thread_at core t)) → Standing core patience c
@@ -80,13 +78,13 @@ module _ (l : Ledger) (m : Meaning) (core : Core) (c : ℕ) (o : Option ℕ) (in
   off_cpu : (s : ℕ) → s < core.sizes.threads → ((other : ℕ) → k.current other ≡ Some s → ⊥) → (before : Option ℕ) → l.current c ≡ before → AllByRecursion (RestartPoint core.image) (frames_of (thread_at core s))
   off_cpu s below off None is =
       inv.off_cpu s below
-      (λ other on. ⊎_elim (λ (same : other ≡ c). none_some (sym is ∙ ap l.current (sym same) ∙ on)) (λ (differs : other ≡ c → ⊥). off other (now_else other differs ∙ on)) (cases_eq other c))
+      (λ other on. ⊎_elim (λ (same : other ≡ c). absurd (none-some _ (sym is ∙ ap l.current (sym same) ∙ on))) (λ (differs : other ≡ c → ⊥). off other (now_else other differs ∙ on)) (cases_eq other c))
   off_cpu s below off (Some r) is =
       ⊎_elim (λ (same : r ≡ s). restart s (is ∙ ap Some same))
       (λ (differs : r ≡ s → ⊥).
       inv.off_cpu s below
       (λ other on.
-      ⊎_elim (λ (same : other ≡ c). differs (some_same (sym is ∙ ap l.current (sym same) ∙ on))) (λ (apart : other ≡ c → ⊥). off other (now_else other apart ∙ on)) (cases_eq other c)))
+      ⊎_elim (λ (same : other ≡ c). differs (same_Some _ _ (sym is ∙ ap l.current (sym same) ∙ on))) (λ (apart : other ≡ c → ⊥). off other (now_else other apart ∙ on)) (cases_eq other c)))
       (cases_eq r s)
 
   -- Where a thread is now, it was before, or it is the new one.

@@ -1,8 +1,8 @@
 -- A machine that has just booted: all that holds of every machine with a past holds of it.
-use Rattle.std.proofs.Common.{◌≡◌, ℕ, zero, suc, ◌-◌, ◌<◌, ◌≤◌, Bool, true, false, cond, ◌&&◌, eqb, leb, ◌⊎◌, List, [], ◌∷◌, ◌++◌, map, length, get_or, replicate, Some, None, Ok, Option, sym, refl, ap, ◌∙◌, subst, inl, inr, ⊎_elim, arith}
+use Rattle.std.proofs.Common.{◌≡◌, ℕ, zero, suc, ◌-◌, ◌<◌, ◌≤◌, Bool, true, false, cond, ◌&&◌, eqb, ltb, leb, ◌⊎◌, List, [], ◌∷◌, ◌++◌, map, length, get_or, replicate, Some, None, Ok, Option, sym, refl, ap, ◌∙◌, subst, inl, inr, ⊎_elim, arith}
 use lib.ListN.{get_or-replicate}
 use lib.Seq.{take-append_seam}
-use Rattle.std.proofs.lemmas.Bool.{eqb-true, ne_eqb, lt-leb, cases_eq, and_parts}
+use Rattle.std.proofs.lemmas.Bool.{agree_below_at, eqb-true, ltb-true, ne_eqb, lt-leb, cases_eq, and_parts}
 use Rattle.std.specs.List.{AllByRecursion}
 use Rattle.words.specs.declared.Kind.{Kind}
 use Rattle.words.specs.declared.Kind.TheVariants as kind
@@ -32,14 +32,10 @@ use Rattle.model.specs.Words.{decoded}
 use Rattle.model.specs.Calls.{same_section, section_checks, image_of, Boots}
 use Rattle.model.specs.Ledger.{new_ledger}
 use Rattle.model.specs.Claims.{StructuresAgree, among, HasMeaning}
-use Rattle.model.proofs.Booting.{new_agrees}
+use Rattle.model.proofs.Booting.{each_cpu, new_agrees}
 use Rattle.lives.proofs.Nodes.{new_nodes}
 use Rattle.lives.proofs.Standing.{TextStands, RestartPoint, idle, ThreadStands, WithinLimits, Invariant}
 use Rattle.lives.specs.Apart.{frames_of, section_of_operation, entry_of, word_here}
-
--- Nothing is not something.
-none_no_some : {P : Type 0} {n : ℕ} → ◌≡◌ {A = Option ℕ} None (Some n) → P
-none_no_some e = let z : ◌≡◌ {A = ℕ} 0 1 = cc in absurd (omega arith)
 
 -- The number of a word stands for that word.
 word_of_code : (w : Word) → word_of (code w) ≡ Some w
@@ -144,17 +140,12 @@ split_all [] second all = (tt, all)
 split_all (c ∷ cs) second all = let rest = split_all cs second all.1 in ((all.0, rest.0), rest.1)
 
 -- Sections that pass the comparison are the same.
-same_fields : (one other : Section) → one.start ≡ other.start → one.length ≡ other.length → one.abort ≡ other.abort → one ≡ other
-same_fields one other start length abort =
-    ap (λ (x : ℕ). record { start = x; length = one.length; abort = one.abort }) start
-    ∙ (ap (λ (x : ℕ). record { start = other.start; length = x; abort = one.abort }) length
-    ∙ ap (λ (x : ℕ). record { start = other.start; length = other.length; abort = x }) abort)
-
 same_by_test : (one other : Section) → same_section one other ≡ true → one ≡ other
 same_by_test one other e =
     let p = and_parts (eqb one.start other.start) (eqb one.length other.length && eqb one.abort other.abort) e in
     let q = and_parts (eqb one.length other.length) (eqb one.abort other.abort) p.1 in
-    same_fields one other (eqb-true one.start other.start p.0) (eqb-true one.length other.length q.0) (eqb-true one.abort other.abort q.1)
+    let same : ◌≡◌ {A = Section} (record { start = one.start; length = one.length; abort = one.abort }) (record { start = other.start; length = other.length; abort = other.abort }) =
+    cc (eqb-true one.start other.start p.0, eqb-true one.length other.length q.0, eqb-true one.abort other.abort q.1) in same
 
 -- An exclusion that passes the comparison has the table's sections.
 sections_agree : (m : Meaning) (table : List ℕ) → Shaped m → AllByRecursion Passes (section_checks m.section table kinds) → (d : ℕ) → m.section d ≡ section_at (sections_of table) d
@@ -173,15 +164,7 @@ abbrev eight : List ℕ
 eight = 0 ∷ 1 ∷ 2 ∷ 3 ∷ 4 ∷ 5 ∷ 6 ∷ 7 ∷ []
 
 among_eight : (c : ℕ) → c < 8 → 0 < among c eight
-among_eight zero below = omega arith
-among_eight (suc zero) below = omega arith
-among_eight (suc (suc zero)) below = omega arith
-among_eight (suc (suc (suc zero))) below = omega arith
-among_eight (suc (suc (suc (suc zero)))) below = omega arith
-among_eight (suc (suc (suc (suc (suc zero))))) below = omega arith
-among_eight (suc (suc (suc (suc (suc (suc zero)))))) below = omega arith
-among_eight (suc (suc (suc (suc (suc (suc (suc zero))))))) below = omega arith
-among_eight (suc (suc (suc (suc (suc (suc (suc (suc c)))))))) below = absurd (omega arith)
+among_eight c below = ltb-true 0 (among c eight) (agree_below_at (λ n. ltb 0 (among n eight)) (λ n. true) 8 c refl below)
 
 -- An exclusion that is told left for some CPUs keeps its sections, and has no patience for those CPUs.
 module _ {E : Type 0} (meaning : E → Meaning) (told : E → Notice → E → Type 0) (answers : E → ℕ → ℕ → ℕ → Verdict → Type 0) (has : HasMeaning meaning told answers) where
@@ -201,12 +184,6 @@ module _ {E : Type 0} (meaning : E → Meaning) (told : E → Notice → E → T
       let not_first : ◌≡◌ {A = ℕ} (cond (eqb cpu c) 1 0) 0 = ap (λ b. cond b 1 0) (ne_eqb cpu c (λ e. other (sym e))) in
       inr (omega arith)) either) (cases_eq c cpu))
 
--- What is repeated holds of each, and past the end.
-each : {A : Type 0} (P : A → Type 0) (x d : A) (k i : ℕ) → P x → P d → P (get_or (replicate k x) i d)
-each P x d zero i p q = q
-each P x d (suc k) zero p q = p
-each P x d (suc k) (suc i) p q = each P x d k i p q
-
 -- The parts of a new machine: eight new CPUs, and sixteen new threads.
 module _ (sizes : Sizes) (image : Image) where
   abbrev new : Core
@@ -216,12 +193,8 @@ module _ (sizes : Sizes) (image : Image) where
   new_cpu_at P zero below each_new = each_new _
   new_cpu_at P (suc c) below each_new = subst P (sym (get_or-replicate 7 c (new_cpu 0) no_cpu (omega arith))) (each_new 0)
 
-  new_thread_at : (t : ℕ) → t < 16 → thread_at new t ≡ new_thread
-  new_thread_at t below = get_or-replicate 16 t new_thread no_thread below
-
   no_current : (c : ℕ) → (cpu_at new c).current ≡ None
-  no_current zero = refl
-  no_current (suc c) = each (λ (x : Cpu). x.current ≡ None) (new_cpu 0) no_cpu 7 c refl refl
+  no_current c = each_cpu (λ (x : Cpu). x.current ≡ None) sizes image c (λ first. refl) refl
 
   -- All that holds of a new machine, with sizes within the limits, an image that stands, and an exclusion that has its
   -- sections and no patience.
@@ -230,7 +203,7 @@ module _ (sizes : Sizes) (image : Image) where
   new_invariant m limits text sections patience =
       let agrees : StructuresAgree sizes (new_ledger sizes) new = new_agrees sizes image limits.nodes in
       let on_cpu : (c : ℕ) → c < sizes.cpus → c < 8 = λ c below. omega (arith, limits.cpus) in
-      let in_threads : (t : ℕ) → t < sizes.threads → thread_at new t ≡ new_thread = λ t below. new_thread_at t (omega (arith, limits.threads)) in
+      let in_threads : (t : ℕ) → t < sizes.threads → thread_at new t ≡ new_thread = λ t below. get_or-replicate 16 t new_thread no_thread (omega (arith, limits.threads)) in
       record {
         limits = limits;
         text = text;
@@ -247,8 +220,8 @@ module _ (sizes : Sizes) (image : Image) where
         };
         hands = agrees.hands;
         current = no_current;
-        current_exists = λ c t some. none_no_some some;
-        on_one_cpu = λ c other t some too. none_no_some some;
+        current_exists = λ c t some. cc;
+        on_one_cpu = λ c other t some too. cc;
         threads = λ t below.
             subst (ThreadStands sizes image []) (sym (in_threads t below))
             (record { whole = record { eight_places = refl; at_most_eight = omega arith }; waits = refl; valid = tt; below = tt });

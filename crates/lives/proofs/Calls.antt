@@ -1,6 +1,7 @@
 -- The parts of calls: checks that pass or refuse, operations, the CPU that has a thread, and disturbing a CPU's thread.
 use Rattle.std.proofs.Common.{◌≡◌, ℕ, zero, suc, ◌-◌, ◌<◌, ◌≤◌, Bool, true, false, cond, eqb, List, [], ◌∷◌, reverse, get_or, take, Some, None, Err, MatchBool, Option, Result, sym, refl, ap, ◌∙◌, subst, ⊎_elim, arith, get_or-set_other, get_or-set_same}
 use Rattle.std.proofs.lemmas.Bool.{cases_eq, cases_lt, eqb-true, eqb-false, ltb-true}
+use Rattle.std.proofs.lemmas.Option.{cond_some, same_Some}
 use Rattle.std.specs.List.{AllByRecursion}
 use Rattle.faults.specs.declared.Fault.{Fault}
 use Rattle.image.specs.declared.fields.Sizes.{Sizes}
@@ -26,65 +27,57 @@ use Rattle.model.specs.Claims.{is_thread, HasMeaning}
 use Rattle.lives.proofs.Nodes.{updated_here, updated_else}
 use Rattle.lives.proofs.Midway.{Valid}
 use Rattle.lives.proofs.Standing.{RestartPoint, Standing, idle, resting, Invariant}
-use Rattle.lives.proofs.Keeping.{some_same}
 use Rattle.lives.proofs.Disturbing.{meaning_changed, Calmed, ByOutcome, by_verdict}
 use Rattle.lives.specs.Apart.{frames_of, cpu_among}
 
 -- The fault of checks that do not all pass is that of one of them.
 pub fault_among : {X : Type 0} (P : Fault → Type 0) (x : X) (checks : List Check) (fault : Fault) → AllByRecursion (λ (check : Check). P check.fault) checks → first_failing x checks ≡ Err fault → P fault
-fault_among P x [] fault all e = let z : ◌≡◌ {A = ℕ} 0 1 = cc in absurd (omega arith)
+fault_among P x [] fault all e = cc
 fault_among {X} P x (check ∷ checks) fault all e = go check.passes refl (λ rest. fault_among P x checks fault all.1 rest)
   where
-    same : {f g : Fault} → ◌≡◌ {A = Result X Fault} (Err f) (Err g) → f ≡ g
-    same e = cc
-
     go : (b : Bool) → check.passes ≡ b → (first_failing x checks ≡ Err fault → P fault) → P fault
     go true is then = then (sym (ap (λ t. cond t (first_failing x checks) (Err check.fault)) is) ∙ e)
-    go false is then = subst P (same (sym (ap (λ t. cond t (first_failing x checks) (Err check.fault)) is) ∙ e)) all.0
+    go false is then = let failed : ◌≡◌ {A = Result X Fault} (Err check.fault) (Err fault) = sym (ap (λ t. cond t (first_failing x checks) (Err check.fault)) is) ∙ e in let same : check.fault ≡ fault = cc in subst P same all.0
 
 -- What an operand stands for is an operation that the machine can have.
 module _ (sizes : Sizes) where
-  only_if : (b : Bool) (o operation : Operation) → cond b (Some o) None ≡ Some operation → (b ≡ true) × (o ≡ operation)
-  only_if true o operation e = (refl, cc)
-  only_if false o operation e = let z : ◌≡◌ {A = ℕ} 0 1 = cc in absurd (omega arith)
-
   valid_kind : (k : Option Kind) (counter amount : ℕ) (operation : Operation) → by_kind sizes k counter amount ≡ Some operation → Valid sizes operation
-  valid_kind None counter amount operation e = let z : ◌≡◌ {A = ℕ} 0 1 = cc in absurd (omega arith)
-  valid_kind (Some kind.Add) counter amount operation e = let p = only_if _ (Add counter amount) operation e in subst (Valid sizes) p.1 (ltb-true counter sizes.counters p.0)
-  valid_kind (Some kind.Push) counter amount operation e = let p = only_if _ Push operation e in subst (Valid sizes) p.1 tt
-  valid_kind (Some kind.Pop) counter amount operation e = let p = only_if _ Pop operation e in subst (Valid sizes) p.1 tt
-  valid_kind (Some kind.Put) counter amount operation e = let p = only_if _ (Put amount) operation e in subst (Valid sizes) p.1 tt
-  valid_kind (Some kind.Take) counter amount operation e = let p = only_if _ Take operation e in subst (Valid sizes) p.1 tt
+  valid_kind None counter amount operation e = cc
+  valid_kind (Some kind.Add) counter amount operation e = let p = cond_some _ (Add counter amount) operation e in subst (Valid sizes) p.1 (ltb-true counter sizes.counters p.0)
+  valid_kind (Some kind.Push) counter amount operation e = let p = cond_some _ Push operation e in subst (Valid sizes) p.1 tt
+  valid_kind (Some kind.Pop) counter amount operation e = let p = cond_some _ Pop operation e in subst (Valid sizes) p.1 tt
+  valid_kind (Some kind.Put) counter amount operation e = let p = cond_some _ (Put amount) operation e in subst (Valid sizes) p.1 tt
+  valid_kind (Some kind.Take) counter amount operation e = let p = cond_some _ Take operation e in subst (Valid sizes) p.1 tt
 
   pub operation_valid : (raw : RawOperation) (operation : Operation) → operation_of sizes raw ≡ Some operation → Valid sizes operation
   operation_valid raw operation e = valid_kind (kind_of raw.kind) raw.counter raw.amount operation e
 
 -- The CPU that has a thread.
 module _ (core : Core) (t : ℕ) where
-  is_there : (o : Option ℕ) → is_thread t o ≡ true → o ≡ Some t
-  is_there None e = let z : ◌≡◌ {A = ℕ} 0 1 = cc in absurd (omega arith)
+  pub is_there : (o : Option ℕ) → is_thread t o ≡ true → o ≡ Some t
+  is_there None e = cc
   is_there (Some s) e = ap Some (eqb-true s t e)
 
   is_not_there : (o : Option ℕ) → is_thread t o ≡ false → o ≡ Some t → ⊥
-  is_not_there None e is = let z : ◌≡◌ {A = ℕ} 0 1 = cc in omega arith
-  is_not_there (Some s) e is = eqb-false s t e (some_same is)
+  is_not_there None e is = cc
+  is_not_there (Some s) e is = eqb-false s t e (same_Some _ _ is)
 
   none_of : (cpus : List Cpu) (i : ℕ) → cpu_among cpus i t ≡ None → (j : ℕ) → (get_or cpus j no_cpu).current ≡ Some t → ⊥
-  none_of [] i e j there = let z : ◌≡◌ {A = ℕ} 0 1 = cc in omega arith
+  none_of [] i e j there = cc
   none_of (cpu ∷ cpus) i e j there = go (is_thread t cpu.current) refl (λ rest. none_of cpus (suc i) rest) j there
     where
       go : (b : Bool) → is_thread t cpu.current ≡ b → (cpu_among cpus (suc i) t ≡ None → (j : ℕ) → (get_or cpus j no_cpu).current ≡ Some t → ⊥) → (j : ℕ) → (get_or (cpu ∷ cpus) j no_cpu).current ≡ Some t → ⊥
-      go true is then j there = let clash : Some i ≡ None = sym (ap (λ x. cond x (Some i) (cpu_among cpus (suc i) t)) is) ∙ e in let z : ◌≡◌ {A = ℕ} 0 1 = cc in omega arith
+      go true is then j there = let clash : Some i ≡ None = sym (ap (λ x. cond x (Some i) (cpu_among cpus (suc i) t)) is) ∙ e in cc
       go false is then zero there = is_not_there cpu.current is there
       go false is then (suc j) there = then (sym (ap (λ x. cond x (Some i) (cpu_among cpus (suc i) t)) is) ∙ e) j there
 
   one_of : (cpus : List Cpu) (i c : ℕ) → cpu_among cpus i t ≡ Some c → (i ≤ c) × ((get_or cpus (c - i) no_cpu).current ≡ Some t)
-  one_of [] i c e = let z : ◌≡◌ {A = ℕ} 0 1 = cc in absurd (omega arith)
+  one_of [] i c e = cc
   one_of (cpu ∷ cpus) i c e = go (is_thread t cpu.current) refl (λ rest. one_of cpus (suc i) c rest)
     where
       go : (b : Bool) → is_thread t cpu.current ≡ b → (cpu_among cpus (suc i) t ≡ Some c → (suc i ≤ c) × ((get_or cpus (c - suc i) no_cpu).current ≡ Some t)) → (i ≤ c) × ((get_or (cpu ∷ cpus) (c - i) no_cpu).current ≡ Some t)
       go true is then =
-          let here : i ≡ c = some_same (sym (ap (λ x. cond x (Some i) (cpu_among cpus (suc i) t)) is) ∙ e) in
+          let here : i ≡ c = same_Some _ _ (sym (ap (λ x. cond x (Some i) (cpu_among cpus (suc i) t)) is) ∙ e) in
           (omega arith, ap (λ n. (get_or (cpu ∷ cpus) n no_cpu).current) {x = c - i} {y = 0} (omega arith) ∙ is_there cpu.current is)
       go false is then =
           let p = then (sym (ap (λ x. cond x (Some i) (cpu_among cpus (suc i) t)) is) ∙ e) in
@@ -144,9 +137,9 @@ module _ {E : Type 0} (meaning : E → Meaning) (told : E → Notice → E → T
     thread_there th = get_or-set_same m.0.threads t th no_thread (omega (arith, t_exists, inv.limits.threads, inv.sixteen_threads))
 
     verdict_depth : (v : Verdict) (th : Thread) → after_verdict m.0 (thread_at m.0 t) v ≡ Some th → th.depth ≡ (thread_at m.0 t).depth
-    verdict_depth verdict.Outside th is = sym (ap (λ (x : Thread). x.depth) (some_same is))
-    verdict_depth verdict.Held th is = let z : ◌≡◌ {A = ℕ} 0 1 = cc in absurd (omega arith)
-    verdict_depth (verdict.Back place) th is = sym (ap (λ (x : Thread). x.depth) (some_same is))
+    verdict_depth verdict.Outside th is = sym (ap (λ (x : Thread). x.depth) (same_Some _ _ is))
+    verdict_depth verdict.Held th is = cc
+    verdict_depth (verdict.Back place) th is = sym (ap (λ (x : Thread). x.depth) (same_Some _ _ is))
 
     -- A meaning as it would be after left, to look at what a held thread tells of the one before.
     abbrev without_patience : Meaning
@@ -170,7 +163,7 @@ module _ {E : Type 0} (meaning : E → Meaning) (told : E → Notice → E → T
         (by_verdict l (meaning m.1) m.0 c t inv on some (meaning f) (left_becomes f tells) v (has.says m.1 c _ _ v answer)) in
         record {
           invariant = calmed.invariant;
-          restart = λ s there. subst (λ x. AllByRecursion (RestartPoint m.0.image) (frames_of (thread_at (put_thread m.0 t th) x))) (some_same (sym on ∙ there)) calmed.restart;
+          restart = λ s there. subst (λ x. AllByRecursion (RestartPoint m.0.image) (frames_of (thread_at (put_thread m.0 t th) x))) (same_Some _ _ (sym on ∙ there)) calmed.restart;
           threads_else = λ s differs. get_or-set_other m.0.threads t s th no_thread (λ same. differs (on ∙ ap Some (sym same)));
           depths = λ s.
               ⊎_elim
@@ -191,7 +184,7 @@ module _ {E : Type 0} (meaning : E → Meaning) (told : E → Notice → E → T
           let empty = eqb-true (thread_at m.0 t).depth 0 none in
           subst ByCore (sym is)
           (nothing_asked (λ f tells. resting t (inv.current c ∙ on) empty ((left_becomes f tells).there (omega (arith, exists, inv.limits.cpus))))
-          (λ s there. ap (λ x. (thread_at m.0 x).depth) (some_same (sym there ∙ on)) ∙ empty))
+          (λ s there. ap (λ x. (thread_at m.0 x).depth) (same_Some _ _ (sym there ∙ on)) ∙ empty))
       go false more (v, answer, is) =
           let ne = eqb-false (thread_at m.0 t).depth 0 more in
           let some : 0 < (thread_at m.0 t).depth = ⊎_elim (λ (none : (thread_at m.0 t).depth < 1). absurd (ne (omega arith))) (λ (p : 1 ≤ (thread_at m.0 t).depth). p) (cases_lt (thread_at m.0 t).depth 1) in
@@ -201,5 +194,5 @@ module _ {E : Type 0} (meaning : E → Meaning) (told : E → Notice → E → T
   disturbed_current None none o is =
       subst ByCore (sym is)
       (nothing_asked (λ f tells. idle (inv.current c ∙ none) ((left_becomes f tells).there (omega (arith, exists, inv.limits.cpus))))
-      (λ s there. let clash : None ≡ Some s = sym none ∙ there in let z : ◌≡◌ {A = ℕ} 0 1 = cc in absurd (omega arith)))
+      (λ s there. let clash : None ≡ Some s = sym none ∙ there in cc))
   disturbed_current (Some t) on o d = disturbed t on o d

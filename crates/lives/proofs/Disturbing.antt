@@ -1,6 +1,7 @@
 -- Disturbing the thread of a CPU: where it is not held it ends at a restart point, and all is kept.
 use Rattle.std.proofs.Common.{◌≡◌, ℕ, ◌+◌, ◌*◌, ◌<◌, ◌≤◌, cond, length, Some, None, Option, sym, refl, ap, ◌∙◌, subst, inl, inr, ⊎_elim, arith, get_or-set_same}
 use Rattle.std.proofs.lemmas.Bool.{cases_eq, cases_lt, eq-eqb, ne_eqb}
+use Rattle.std.proofs.lemmas.Option.{same_Some}
 use Rattle.std.specs.List.{AllByRecursion}
 use Rattle.image.specs.declared.layout.Section.{Section}
 use Rattle.image.specs.Layout.{Inside}
@@ -16,8 +17,8 @@ use Rattle.model.specs.State.{no_thread, put_thread, thread_at, cpu_at, top_fram
 use Rattle.model.specs.Calls.{after_verdict}
 use Rattle.model.specs.Ledger.{Ledger}
 use Rattle.lives.proofs.Midway.{words_of}
-use Rattle.lives.proofs.Standing.{RestartPoint, at_entry, at_abort, at_start, Midway, Standing, idle, resting, restarting, midway, ThreadStands, Invariant}
-use Rattle.lives.proofs.Keeping.{some_same, Change, kept}
+use Rattle.lives.proofs.Standing.{RestartPoint, at_entry, at_abort, at_start, Midway, Standing, restarting, ThreadStands, Invariant, StandsThere, restarts_there, midway_there, stands_there}
+use Rattle.lives.proofs.Keeping.{Change, kept}
 use Rattle.lives.proofs.Threads.{TopBecomes, top_is, topped, all_from_top}
 use Rattle.lives.proofs.Wholes.{same_ledger}
 use Rattle.lives.proofs.Instructing.{few_words, known_within, inside_section}
@@ -103,27 +104,10 @@ module _ (l : Ledger) (m : Meaning) (core : Core) (c t : ℕ) (inv : Invariant l
       let within = known_within core.sizes.packets (cpu_at core c) core.next thread operation at.words_done at.known in
       armed_inside (subst Possible (sym at.place) (inv.text.section_possible operation at.words_done within.1)) (alone at.words_done within.1 at.place at.armed)
 
-  -- How the CPU stands, of a thread with an operation.
-  pub data StandsThere : Type 0 where
-    restarts_there : RestartPoint core.image (top_frame thread) → m.patience c ≡ 0 → StandsThere
-    midway_there : Midway core.sizes.packets core.image c (cpu_at core c) core.next thread → StandsThere
-
-  pub stands_there : StandsThere
-  stands_there = go (inv.standing c c_exists)
-    where
-      same_thread : (s : ℕ) → (cpu_at core c).current ≡ Some s → s ≡ t
-      same_thread s there = some_same (sym there ∙ inv.current c ∙ on)
-
-      go : Standing core (m.patience c) c → StandsThere
-      go (idle none calm) = let clash : None ≡ Some t = sym none ∙ inv.current c ∙ on in let z : ◌≡◌ {A = ℕ} 0 1 = cc in absurd (omega arith)
-      go (resting s there rests calm) = let e = ap (λ x. (thread_at core x).depth) (same_thread s there) in absurd (omega (arith, some))
-      go (restarting s there more point calm) = restarts_there (subst (λ x. RestartPoint core.image (top_frame (thread_at core x))) (same_thread s there) point) calm
-      go (midway s there more at) = midway_there (subst (λ x. Midway core.sizes.packets core.image c (cpu_at core c) core.next (thread_at core x)) (same_thread s there) at)
-
   pub asks : AskedHere
-  asks = go stands_there
+  asks = go (stands_there l m core c t inv on some)
     where
-      go : StandsThere → AskedHere
+      go : StandsThere m core c t → AskedHere
       go (restarts_there point calm) = asked_at point calm
       go (midway_there at) = asked_midway at
 
@@ -136,7 +120,7 @@ module _ (l : Ledger) (m : Meaning) (core : Core) (c t : ℕ) (inv : Invariant l
 
   -- The armed number inside a section is the operation's own, and its section is the operation's.
   armed_own : InArmedAlone m (top_frame thread).armed (top_frame thread).place → (top_frame thread).armed ≡ descriptor_of_operation operation
-  armed_own inside = go stands_there
+  armed_own inside = go (stands_there l m core c t inv on some)
     where
       not_there : ((d : ℕ) → Inside (section_at core.image.sections d) (top_frame thread).place → ⊥) → ⊥
       not_there none = no_section (top_frame thread).place none (top_frame thread).armed inside.inside
@@ -146,7 +130,7 @@ module _ (l : Ledger) (m : Meaning) (core : Core) (c t : ℕ) (inv : Invariant l
       at_point (at_abort place unarmed) = absurd (not_there (λ d i. inv.text.abort_outside operation d (subst (Inside (section_at core.image.sections d)) place i)))
       at_point (at_start place armed) = armed
 
-      go : StandsThere → (top_frame thread).armed ≡ descriptor_of_operation operation
+      go : StandsThere m core c t → (top_frame thread).armed ≡ descriptor_of_operation operation
       go (restarts_there point calm) = at_point point
       go (midway_there at) = at.armed
 
@@ -212,7 +196,7 @@ module _ (l : Ledger) (m : Meaning) (core : Core) (c t : ℕ) (inv : Invariant l
 
       -- in no section: it stays where it is, with nothing armed
       unarmed_point : InNoSection m (top_frame thread).place → RestartPoint core.image (record { operation = operation; place = (top_frame thread).place; armed = 0 })
-      unarmed_point none = by_standing stands_there
+      unarmed_point none = by_standing (stands_there l m core c t inv on some)
         where
           by_point : RestartPoint core.image (top_frame thread) → RestartPoint core.image (record { operation = operation; place = (top_frame thread).place; armed = 0 })
           by_point (at_entry place unarmed) = at_entry place refl
@@ -221,7 +205,7 @@ module _ (l : Ledger) (m : Meaning) (core : Core) (c t : ℕ) (inv : Invariant l
               let first : section.start + 4 * 0 ≡ section.start = omega arith in
               absurd (none (top_frame thread).armed (alone 0 (omega (arith, (few_words operation).0)) (place ∙ sym first) armed).inside)
 
-          by_standing : StandsThere → RestartPoint core.image (record { operation = operation; place = (top_frame thread).place; armed = 0 })
+          by_standing : StandsThere m core c t → RestartPoint core.image (record { operation = operation; place = (top_frame thread).place; armed = 0 })
           by_standing (restarts_there point calm) = by_point point
           by_standing (midway_there at) =
               let within = known_within core.sizes.packets (cpu_at core c) core.next thread operation at.words_done at.known in

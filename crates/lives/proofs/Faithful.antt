@@ -22,27 +22,20 @@ use Rattle.model.specs.Ledger.{Ledger, new_ledger}
 use Rattle.model.specs.Life.{Event, ledger, Life, booted, lived}
 use Rattle.model.specs.Claims.{HasMeaning, StructuresAgree, Mark, instruction, held, about, trace, NothingGranted, Settles, ByThread, Faithful}
 use Rattle.model.proofs.Asking.{agreeing_tell}
-use Rattle.model.proofs.Calling.{accepted_refused, ran_refused, advanced_refused}
 use Rattle.lives.proofs.Standing.{Invariant}
 use Rattle.lives.proofs.Operations.{operations_conserved, nothing_invented}
 use Rattle.lives.proofs.Booted.{booted_invariant, booted_sizes}
 use Rattle.lives.proofs.Disturbing.{asked}
 use Rattle.lives.proofs.Traces.{pending, in_eight_none, in_five_none, pending_has}
 use Rattle.lives.proofs.Pacing.{Paced}
-use Rattle.lives.proofs.Granting.{is_thread_of}
-use Rattle.lives.proofs.Calls.{fault_among, cpu_has, ByCore, disturbed, disturbed_current}
+use Rattle.lives.proofs.Calls.{fault_among, is_there, cpu_has, ByCore, disturbed, disturbed_current}
 use Rattle.lives.proofs.Living.{LivedWell, stepped_well}
+use Rattle.model.proofs.Calling.{by_current, by_operation}
 use Rattle.lives.specs.Apart.{with_frame, given_thread}
 use Rattle.lives.specs.Whole.{since, WhollyFaithful, EveryLifeIsWhollyFaithful}
 use Rattle.model.specs.declared.state.Frame.{Frame}
 use Rattle.model.specs.Laws.{HeadsAreSlots}
 use Rattle.lives.proofs.Stacks.{mapped_backwards}
-
-nothing_yet : {P : Type 0} {t : ℕ} → ◌≡◌ {A = Option ℕ} None (Some t) → P
-nothing_yet e = let z : ◌≡◌ {A = ℕ} 0 1 = cc in absurd (omega arith)
-
-false_true : {P : Type 0} → false ≡ true → P
-false_true e = absurd (false≢true e)
 
 module _ {E : Type 0} (meaning : E → Meaning) (told : E → Notice → E → Type 0) (answers : E → ℕ → ℕ → ℕ → Verdict → Type 0) (has : HasMeaning meaning told answers) where
   -- Right after boot nothing has happened.
@@ -50,10 +43,10 @@ module _ {E : Type 0} (meaning : E → Meaning) (told : E → Notice → E → T
   new_paced sizes m c = record {
     in_eight = in_eight_none;
     in_five = in_five_none;
-    pace = λ t on some. nothing_yet on;
-    pace_held = λ t on some waits. nothing_yet on;
-    at_rest = λ t on rests. nothing_yet on;
-    patient = λ t on patient. nothing_yet on;
+    pace = λ t on some. cc;
+    pace_held = λ t on some waits. cc;
+    at_rest = λ t on rests. cc;
+    patient = λ t on patient. cc;
     concerned = tt;
   }
 
@@ -76,49 +69,39 @@ module _ {E : Type 0} (meaning : E → Meaning) (told : E → Notice → E → T
     abbrev fault : Fault
     fault = fault_at Held 0
 
-    refusal_same : {f g : Fault} → refused f ≡ refused g → f ≡ g
-    refusal_same e = cc
-
     -- It was not refused by a check.
     not_by_checks : (checks : List Check) (k : Core × E) (done : Type 0) (c : ℕ) → AllByRecursion (λ (check : Check). eqb (number_of check.fault.refusal) 18 ≡ false) checks
         → (AllByRecursion (λ (check : Check). check.passes ≡ true) checks → done → HeldOn c) → (o : Result (Unit {0}) Fault) → all_pass checks ≡ o → ByChecks told answers m o (refused fault) k done → HeldOn c
     not_by_checks checks k done c others then (Ok u) is d = then (all_passed tt u checks is) d
     not_by_checks checks k done c others then (Err other) is (answer, same) =
-        false_true (sym (fault_among (λ f. eqb (number_of f.refusal) 18 ≡ false) tt checks other others is) ∙ ap (λ (f : Fault). eqb (number_of f.refusal) 18) (sym (refusal_same answer)))
-
-    by_current : (c : ℕ) (P : ℕ → Type 0) (o : Option ℕ) → ByCurrent told answers o P → ((t : ℕ) → P t → HeldOn c) → HeldOn c
-    by_current c P None d then = absurd d
-    by_current c P (Some t) d then = then t d
-
-    by_operation : (c : ℕ) (P : Operation → Type 0) (o : Option Operation) → ByOperation told answers o P → ((operation : Operation) → P operation → HeldOn c) → HeldOn c
-    by_operation c P None d then = absurd d
-    by_operation c P (Some operation) d then = then operation d
+        let refusal : fault ≡ other = cc in
+        absurd (false≢true (sym (fault_among (λ f. eqb (number_of f.refusal) 18 ≡ false) tt checks other others is) ∙ ap (λ (f : Fault). eqb (number_of f.refusal) 18) (sym refusal)))
 
     granted_not : (c : ℕ) (exists : c < m.0.sizes.cpus) (rest : Core → Core) (k : Core × E) (o : Option Core) → ByCore meaning told answers has l m c inv exists o → Granted told answers m c o rest (refused fault) k → HeldOn c
     granted_not c exists rest k None h g = (h.t, h.on, h.patient)
-    granted_not c exists rest k (Some later) h g = accepted_refused g.0
+    granted_not c exists rest k (Some later) h g = cc
 
     abbrev Changes : ℕ → Option ℕ → Core × E → Type 0
     Changes c to k = (o : Option Core) × DisturbsCurrent told answers m c (cpu_at m.0 c).current o × Granted told answers m c o (given_thread c to) (refused fault) k
 
     signals_not : (t : ℕ) (operation : Operation) (c : ℕ) → l.current c ≡ Some t → (k : Core × E) (o : Option ℕ) → cpu_of m.0 t ≡ o → Signals told answers m t operation o (refused fault) k → HeldOn c
-    signals_not t operation c on k None nowhere s = accepted_refused s.0
+    signals_not t operation c on k None nowhere s = cc
     signals_not t operation c on k (Some other) there (o, disturbs, grants) =
         let there_on : l.current other ≡ Some t = sym (inv.current other) ∙ cpu_has m.0 t other there in
         let exists = (inv.current_exists other t there_on).0 in
         subst HeldOn (inv.on_one_cpu other c t there_on on) (granted_not other exists (with_frame t operation) k o (disturbed meaning told answers has l m other inv exists t there_on o disturbs) grants)
 
     held_where : (x : Call) (k : Core × E) → Step told answers m x (refused fault) k → (c : ℕ) → about l c x ≡ true → HeldOn c
-    held_where (call.Enlist t raw) k step c about_it = false_true about_it
+    held_where (call.Enlist t raw) k step c about_it = absurd (false≢true about_it)
     held_where (call.Run cpu) k step c about_it =
         not_by_checks (has_cpu m.0 cpu ∷ has_current m.0 cpu ∷ has_work m.0 cpu ∷ []) k _ c (refl, (refl, (refl, tt)))
         (λ passed d.
-        by_current c (λ t. (settling : Option Settling) × (refused fault ≡ ran settling) × Performs told answers m cpu t settling k) (cpu_at m.0 cpu).current d (λ t p. ran_refused p.1)) _ refl step
+        by_current told answers (cpu_at m.0 cpu).current (λ t. (settling : Option Settling) × (refused fault ≡ ran settling) × Performs told answers m cpu t settling k) (HeldOn c) d (λ t p. cc)) _ refl step
     held_where (call.Advance cpu n) k step c about_it =
         not_by_checks (has_cpu m.0 cpu ∷ has_current m.0 cpu ∷ has_work m.0 cpu ∷ []) k _ c (refl, (refl, (refl, tt)))
         (λ passed d.
-        by_current c (λ t. (count : ℕ) × (settling : Option Settling) × (refused fault ≡ advanced count settling) × Stopped told answers n count settling × Runs told answers cpu t count settling m k) (cpu_at m.0 cpu).current d
-        (λ t p. advanced_refused p.2)) _ refl step
+        by_current told answers (cpu_at m.0 cpu).current (λ t. (count : ℕ) × (settling : Option Settling) × (refused fault ≡ advanced count settling) × Stopped told answers n count settling × Runs told answers cpu t count settling m k) (HeldOn c) d
+        (λ t p. cc)) _ refl step
     held_where (call.Switch cpu t) k step c about_it =
         not_by_checks (has_cpu m.0 cpu ∷ has_thread m.0 t ∷ not_current m.0 t ∷ []) k (Changes cpu (Some t) k) c (refl, (refl, (refl, tt)))
         (λ passed d.
@@ -136,8 +119,8 @@ module _ {E : Type 0} (meaning : E → Meaning) (told : E → Notice → E → T
     held_where (call.Signal t raw) k step c about_it =
         not_by_checks (has_thread m.0 t ∷ is_operation m.0 raw ∷ has_room m.0 t ∷ []) k _ c (refl, (refl, (refl, tt)))
         (λ passed d.
-        by_operation c (λ operation. Signals told answers m t operation (cpu_of m.0 t) (refused fault) k) (operation_of m.0.sizes raw) d
-        (λ operation s. signals_not t operation c (is_thread_of l t (l.current c) about_it) k (cpu_of m.0 t) refl s)) _ refl step
+        by_operation told answers (operation_of m.0.sizes raw) (λ operation. Signals told answers m t operation (cpu_of m.0 t) (refused fault) k) (HeldOn c) d
+        (λ operation s. signals_not t operation c (is_there m.0 t (l.current c) about_it) k (cpu_of m.0 t) refl s)) _ refl step
 
   -- All claims, of a machine with a past.
   module _ (past : List Event) (m : Core × E) (so : LivedWell meaning told answers has m.0.sizes past m) where

@@ -1,6 +1,7 @@
 -- Calls that are granted on a CPU, held there, or only accepted: every CPU keeps its pace.
 use Rattle.std.proofs.Common.{◌≡◌, ℕ, ◌<◌, true, false, List, [], ◌∷◌, Some, None, Option, sym, refl, ap, ◌∙◌, subst, ⊎_elim, arith}
 use Rattle.std.proofs.lemmas.Bool.{cases_eq, eq-eqb, ne_eqb, eqb-true}
+use Rattle.std.proofs.lemmas.Option.{same_Some}
 use Rattle.calls.specs.declared.Call.{Call}
 use Rattle.exclusion.specs.Meaning.{Meaning}
 use Rattle.model.specs.declared.state.Core.{Core}
@@ -8,7 +9,6 @@ use Rattle.model.specs.State.{thread_at}
 use Rattle.model.specs.Ledger.{Ledger}
 use Rattle.model.specs.Claims.{is_thread, Mark, granted, held, about}
 use Rattle.lives.proofs.Standing.{Invariant}
-use Rattle.lives.proofs.Keeping.{some_same}
 use Rattle.lives.proofs.Pacing.{Paced, untouched, paced_anew, paced_held, paced_enlisted}
 use Rattle.lives.proofs.Running.{Well, noted, noted_here, noted_else}
 
@@ -52,20 +52,16 @@ module _ {E : Type 0} (meaning : E → Meaning) (l : Ledger) (marks : ℕ → Li
       on_none x other = untouched l k (meaning m.1) (meaning m.1) m.0 core x (marks x) image (current x) (λ s there. threads s (other s there)) refl (well.paced x)
 
       by_thread : (x : ℕ) (o : Option ℕ) → l.current x ≡ o → Paced k (meaning m.1) core x (marks x)
-      by_thread x None is = on_none x (λ s there same. let clash : None ≡ Some s = sym is ∙ there in let z : ◌≡◌ {A = ℕ} 0 1 = cc in omega arith)
+      by_thread x None is = on_none x (λ s there same. let clash : None ≡ Some s = sym is ∙ there in cc)
       by_thread x (Some r) is =
           ⊎_elim
           (λ (same : r ≡ t).
           let there : l.current x ≡ Some t = is ∙ ap Some same in
           paced_enlisted l k (meaning m.1) m.0 core x t (marks x) (current x) there (rests x there) some inv (well.paced x))
-          (λ (differs : r ≡ t → ⊥). on_none x (λ s there same. differs (some_same (sym is ∙ there) ∙ same))) (cases_eq r t)
+          (λ (differs : r ≡ t → ⊥). on_none x (λ s there same. differs (same_Some _ _ (sym is ∙ there) ∙ same))) (cases_eq r t)
 
 -- A call about a CPU's thread: about the CPU that has it, and no other.
 module _ (l : Ledger) (thread : ℕ) where
-  pub is_thread_of : (o : Option ℕ) → is_thread thread o ≡ true → o ≡ Some thread
-  is_thread_of None e = let z : ◌≡◌ {A = ℕ} 0 1 = cc in absurd (omega arith)
-  is_thread_of (Some s) e = ap Some (eqb-true s thread e)
-
   pub thread_there : (o : Option ℕ) → o ≡ Some thread → is_thread thread o ≡ true
   thread_there o is = ap (is_thread thread) is ∙ eq-eqb thread thread refl
 

@@ -1,7 +1,8 @@
 -- One instruction keeps what holds of every machine with a past, and brings the operation nearer to its end.
 use Rattle.std.proofs.Common.{◌≡◌, ℕ, zero, suc, ◌+◌, ◌-◌, ◌*◌, ◌%◌, ◌^◌, ◌<◌, ◌≤◌, Bool, true, false, cond, ◌&&◌, eqb, leb, ◌⊎◌, List, [], ◌∷◌, map, length, get_or, set, Some, None, Option, sym, refl, ap, ◌∙◌, subst, inl, inr, ⊎_elim, mod-eq_of_lt, arith, length-set, get_or-set_other, get_or-set_same}
 use lib.Seq.{set-get_or}
-use Rattle.std.proofs.lemmas.Bool.{eq-eqb, ne_eqb, cases_lt, and_parts, leb-true}
+use Rattle.std.proofs.lemmas.Bool.{cond-false, eq-eqb, ne_eqb, cases_lt, and_parts, leb-true, true_from_ne_false}
+use Rattle.std.proofs.lemmas.Option.{same_Some}
 use Rattle.std.specs.List.{AllByRecursion}
 use Rattle.words.specs.declared.Word.{Word}
 use Rattle.words.specs.declared.Word.TheVariants.{Enter, ReadCpu, Restart}
@@ -20,12 +21,12 @@ use Rattle.model.specs.declared.state.Settling.{Settling}
 use Rattle.model.specs.State.{no_cpu, no_thread, core_next, put_cpu, put_thread, thread_at, cpu_at, top_frame, dropped, descriptor_of_operation}
 use Rattle.model.specs.Words.{Effect, Performed, progress, notice_of, settled_as, performed}
 use Rattle.model.specs.Ledger.{Ledger, Waiting, Fed, updated, with_waiting, does_whole, settle_top, settle_on}
-use Rattle.model.specs.Claims.{among}
+use Rattle.model.specs.Claims.{among, found}
 use Rattle.lives.proofs.Nodes.{updated_here, settled_nodes, hand_found, hand_not_listed}
 use Rattle.lives.proofs.Stacks.{frames_top}
 use Rattle.lives.proofs.Midway.{words_of, word_number, Known, Holds, Valid, ByAnswer, OnlyTheHandsNode, GoesOn, SettlesAs, step_of, does_right}
-use Rattle.lives.proofs.Standing.{TextStands, RestartPoint, at_entry, at_abort, at_start, Midway, Standing, idle, resting, restarting, midway, ThreadStands, Invariant}
-use Rattle.lives.proofs.Keeping.{some_same, once_at_most, Change, after_change, kept}
+use Rattle.lives.proofs.Standing.{TextStands, RestartPoint, at_entry, at_abort, at_start, Midway, Standing, idle, resting, restarting, midway, ThreadStands, Invariant, StandsThere, restarts_there, midway_there, stands_there}
+use Rattle.lives.proofs.Keeping.{once_at_most, Change, after_change, kept}
 use Rattle.lives.proofs.Threads.{TopBecomes, top_is, topped, all_top, top_waits, dropped_stands, dropped_restarts}
 use Rattle.lives.proofs.Wholes.{same_ledger, whole_elsewhere, settled_elsewhere}
 use Rattle.lives.specs.Apart.{frames_of, section_of_operation, entry_of, does, word_here, performed_as}
@@ -119,7 +120,7 @@ module _ (image : Image) (text : TextStands image) (operation : Operation) where
   entry_not_abort : entry_of image operation ≡ (section_of_operation image operation).abort → ⊥
   entry_not_abort same =
       let clash : Some Enter ≡ Some Restart = sym (text.entry_word operation) ∙ ap (word_here image) same ∙ text.abort_word operation in
-      let z : ◌≡◌ {A = ℕ} 0 1 = cc in omega arith
+      cc
 
   abbrev pub from : ℕ → ℕ
   from place = cond (eqb place (section_of_operation image operation).abort) (4 * long + 8) (start + 4 * long - place)
@@ -351,7 +352,7 @@ module _ (l : Ledger) (m : Meaning) (core : Core) (c t : ℕ) (inv : Invariant l
   nothing_waits none =
       let clash : operation ∷ map (λ (f : Frame). f.operation) (frames_of (dropped thread)) ≡ [] =
       sym (ap (map (λ (f : Frame). f.operation)) (frames_top thread stands.whole some)) ∙ stands.waits ∙ ap (map (λ (w : Waiting). w.operation)) none in
-      let z : ◌≡◌ {A = ℕ} 0 1 = cc in absurd (omega arith)
+      cc
 
   settles_right : (n : Meaning) (i : ℕ) (answer : Answer) → SettlesAs core l c t thread (cpu_at core c) core.next (does_whole core.sizes.packets l t c operation) (step_at i) answer → PatienceBecomes m c 0 n
       → (ws : List Waiting) → l.waiting t ≡ ws → (k : Ledger) → Settled n (after_change l k m n core c t (step_at i).thread (cpus_at i) (step_at i).next) (settling_as operation answer)
@@ -421,15 +422,11 @@ module _ (l : Ledger) (m : Meaning) (core : Core) (c t : ℕ) (inv : Invariant l
   hands_node : (node : ℕ) → l.hands t ≡ Some node → (0 < node) × (node < length core.next) × (among node (l.lists c) ≡ 0)
   hands_node node held =
       let there = hand_found core.sizes l t node t_exists held in
-      let known = one_of (leb 1 node && leb node core.sizes.nodes) (omega (arith, inv.nodes node)) in
+      let known = true_from_ne_false (leb 1 node && leb node core.sizes.nodes) (λ e. let none : found core.sizes l node ≡ 0 = inv.nodes node ∙ cond-false (leb 1 node && leb node core.sizes.nodes) 1 0 e in omega arith) in
       let both = and_parts (leb 1 node) (leb node core.sizes.nodes) known in
       let least = leb-true 1 node both.0 in
       let most = leb-true node core.sizes.nodes both.1 in
       (least, omega (arith, inv.limits.nodes, inv.next_words), hand_not_listed core.sizes l t c node t_exists c_exists (once_at_most l m core inv node) held)
-    where
-      one_of : (b : Bool) → 1 ≤ cond b 1 0 → b ≡ true
-      one_of true h = refl
-      one_of false h = absurd (omega arith)
 
   -- The thread's top operation is one that the machine can have.
   valid_operation : Valid core.sizes operation
@@ -454,18 +451,13 @@ module _ (l : Ledger) (m : Meaning) (core : Core) (c t : ℕ) (inv : Invariant l
 
   -- Wherever the thread stands.
   pub instructed : (n : Meaning) → Right n (performed core c t)
-  instructed n = go (inv.standing c c_exists)
+  instructed n = go (stands_there l m core c t inv on some)
     where
       at_point : RestartPoint core.image (top_frame thread) → m.patience c ≡ 0 → Right n (performed core c t)
       at_point (at_entry at unarmed) calm = enters n at calm
       at_point (at_abort at unarmed) calm = restarts n at unarmed calm
       at_point (at_start at armed) calm = reads_cpu n at armed
 
-      same_thread : (s : ℕ) → (cpu_at core c).current ≡ Some s → s ≡ t
-      same_thread s there = some_same (sym there ∙ inv.current c ∙ on)
-
-      go : Standing core (m.patience c) c → Right n (performed core c t)
-      go (idle none calm) = let clash : None ≡ Some t = sym none ∙ inv.current c ∙ on in let z : ◌≡◌ {A = ℕ} 0 1 = cc in absurd (omega arith)
-      go (resting s there rests calm) = let e = ap (λ x. (thread_at core x).depth) (same_thread s there) in absurd (omega (arith, some))
-      go (restarting s there more point calm) = at_point (subst (λ x. RestartPoint core.image (top_frame (thread_at core x))) (same_thread s there) point) calm
-      go (midway s there more at) = midway_right n (subst (λ x. Midway core.sizes.packets core.image c (cpu_at core c) core.next (thread_at core x)) (same_thread s there) at)
+      go : StandsThere m core c t → Right n (performed core c t)
+      go (restarts_there point calm) = at_point point calm
+      go (midway_there at) = midway_right n at

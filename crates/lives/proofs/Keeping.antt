@@ -1,6 +1,6 @@
 -- What holds of every machine with a past is kept by a change of one CPU's thread and structures.
 use Rattle.std.proofs.Common.{◌≡◌, ℕ, zero, suc, ◌<◌, ◌≤◌, Bool, true, false, cond, ◌&&◌, eqb, leb, List, [], ◌∷◌, length, get_or, set, Some, sym, ap, ◌∙◌, subst, ⊎_elim, arith, length-set, get_or-set_other, get_or-set_same}
-use Rattle.std.proofs.lemmas.Bool.{cases_eq, eq-eqb}
+use Rattle.std.proofs.lemmas.Bool.{cases_eq, cond_both, eq-eqb}
 use Rattle.std.specs.List.{AllByRecursion}
 use Rattle.exclusion.specs.Meaning.{Meaning}
 use Rattle.model.specs.declared.state.Operation.{Operation}
@@ -15,10 +15,6 @@ use Rattle.lives.proofs.Nodes.{hand_not_listed, hands_apart, listed_same}
 use Rattle.lives.proofs.Midway.{Known, Holds, OnlyTheHandsNode}
 use Rattle.lives.proofs.Standing.{RestartPoint, Midway, Standing, idle, resting, restarting, midway, ThreadStands, Invariant}
 use Rattle.lives.specs.Apart.{frames_of, RingFromASlot}
-
--- An option is one thing.
-pub some_same : {A : Type 0} {x y : A} → Some x ≡ Some y → x ≡ y
-some_same {A} {x} {y} e = cc
 
 -- What is known in a section is not changed by next words that it does not read: those of the node in hand and of the list's
 -- first node.
@@ -49,12 +45,8 @@ front_among : (next : List ℕ) (head : ℕ) (nodes : List ℕ) → Listed next 
 front_among next head [] l some = absurd (omega arith)
 front_among next head (node ∷ nodes) (some, is, rest) h = let e : ◌≡◌ {A = ℕ} (cond (eqb node head) 1 0) 1 = ap (λ b. cond b 1 0) (eq-eqb node head (sym is)) in omega arith
 
-one_at_most : (b : Bool) → cond b 1 0 ≤ 1
-one_at_most true = omega arith
-one_at_most false = omega arith
-
 pub once_at_most : (l : Ledger) (m : Meaning) (core : Core) → Invariant l m core → (node : ℕ) → found core.sizes l node ≤ 1
-once_at_most l m core inv node = let h = one_at_most (leb 1 node && leb node core.sizes.nodes) in omega (arith, inv.nodes node)
+once_at_most l m core inv node = let h = cond_both (leb 1 node && leb node core.sizes.nodes) 1 0 (λ k. k ≤ 1) (λ e. omega arith) (λ e. omega arith) in omega (arith, inv.nodes node)
 
 -- Two ledgers differ on one CPU and in one thread only, and have the same threads on the CPUs.
 pub record SameElsewhere (c t : ℕ) (l k : Ledger) : Type 0 where

@@ -1,6 +1,7 @@
 -- Every call keeps what holds of a machine with a past.
-use Rattle.std.proofs.Common.{◌≡◌, ℕ, zero, suc, ◌<◌, Bool, true, false, cond, eqb, List, [], ◌∷◌, ◌++◌, reverse, length, take, replicate, is_some, Some, None, Ok, Err, Option, Result, sym, refl, ap, ◌∙◌, subst, ⊎_elim, arith, get_or-set_other, get_or-set_same}
+use Rattle.std.proofs.Common.{◌≡◌, ℕ, zero, suc, ◌<◌, Bool, true, false, cond, eqb, List, [], ◌∷◌, ◌++◌, reverse, length, take, replicate, is_some, Some, None, Ok, Err, Option, Result, sym, refl, ap, ap₂, ◌∙◌, subst, ⊎_elim, arith, get_or-set_other, get_or-set_same}
 use Rattle.std.proofs.lemmas.Bool.{cases_eq, eq-eqb, ne_eqb, eqb-true, ltb-true, not-true}
+use Rattle.std.proofs.lemmas.Option.{same_Some}
 use Rattle.std.specs.List.{AllByRecursion}
 use Rattle.faults.specs.declared.Fault.{Fault}
 use Rattle.faults.specs.declared.Refusal.TheVariants.{Held}
@@ -28,7 +29,6 @@ use Rattle.model.specs.Claims.{is_thread, HasMeaning, Mark, instruction, granted
 use Rattle.lives.proofs.Nodes.{updated_else}
 use Rattle.lives.proofs.Midway.{Valid}
 use Rattle.lives.proofs.Standing.{RestartPoint, Standing, idle, resting, restarting, midway, Invariant}
-use Rattle.lives.proofs.Keeping.{some_same}
 use Rattle.lives.proofs.Assigning.{assigned, enlisted}
 use Rattle.lives.proofs.Running.{Well, well_marks, noted, ran_well, runs_well, runs_settle}
 use Rattle.lives.proofs.Granting.{granted_well, held_well, enlisted_well, thread_there, not_thread}
@@ -39,9 +39,9 @@ use Rattle.lives.specs.Apart.{frames_of, with_frame, given_thread}
 abbrev NotHeld : Fault → Type 0
 NotHeld fault = eqb (number_of fault.refusal) 18 ≡ false
 
-some_is : (o : Option ℕ) → is_some o ≡ false → o ≡ None
-some_is None e = refl
-some_is (Some x) e = let z : ◌≡◌ {A = ℕ} 0 1 = cc in absurd (omega arith)
+pub none_if_not_some : {A : Type 0} (o : Option A) → is_some o ≡ false → o ≡ None
+none_if_not_some None e = refl
+none_if_not_some (Some x) e = cc
 
 quiet_marks : (count : ℕ) → instructions_of count None ≡ replicate count (instruction false)
 quiet_marks zero = refl
@@ -115,7 +115,7 @@ module _ {E : Type 0} (meaning : E → Meaning) (told : E → Notice → E → T
         go (idle none calm) = calm
         go (resting s there empty calm) = calm
         go (restarting s there some point calm) = calm
-        go (midway s there some at) = let e = ap (λ x. (thread_at core x).depth) (some_same (sym there ∙ inv.current c ∙ on)) in absurd (omega (arith, rests, some))
+        go (midway s there some at) = let e = ap (λ x. (thread_at core x).depth) (same_Some _ _ (sym there ∙ inv.current c ∙ on)) in absurd (omega (arith, rests, some))
 
     empty_restarts : (t : ℕ) → (thread_at core t).depth ≡ 0 → AllByRecursion (RestartPoint core.image) (frames_of (thread_at core t))
     empty_restarts t rests = subst (AllByRecursion (RestartPoint core.image)) (sym (ap (λ n. reverse (take n (thread_at core t).frames)) rests)) tt
@@ -139,9 +139,6 @@ module _ {E : Type 0} (meaning : E → Meaning) (told : E → Notice → E → T
     by_operation x r k P raw None is d then = absurd d
     by_operation x r k P raw (Some operation) is d then = then operation is d
 
-    pair : {A B : Type 0} {a c : A} {b d : B} → a ≡ c → b ≡ d → ◌≡◌ {A = A × B} (a, b) (c, d)
-    pair p q = cc
-
     enlist_well : (t : ℕ) (raw : RawOperation) (r : Answered) (k : Core × E) → Step told answers m (call.Enlist t raw) r k → After (call.Enlist t raw) r k
     enlist_well t raw r k step =
         checked (call.Enlist t raw) (has_thread core t ∷ is_operation core raw ∷ has_no_frame core t ∷ []) r k _ (refl, (refl, (refl, tt)))
@@ -149,7 +146,7 @@ module _ {E : Type 0} (meaning : E → Meaning) (told : E → Notice → E → T
         by_operation (call.Enlist t raw) r k (λ operation. (r ≡ accepted) × (k.0 ≡ with_frame t operation core) × (k.1 ≡ m.1)) raw (operation_of sizes raw) refl d
         (λ operation is p.
         subst (λ a. After (call.Enlist t raw) a k) (sym p.0)
-        (subst (After (call.Enlist t raw) accepted) (sym (pair p.1 p.2))
+        (subst (After (call.Enlist t raw) accepted) (sym (ap₂ (λ a b. (a, b)) p.1 p.2))
         (enlist_accepted t raw operation is (ltb-true t sizes.threads passed.0) (eqb-true (thread_at core t).depth 0 passed.1.1.0)))))
         _ refl step
 
@@ -235,10 +232,10 @@ module _ {E : Type 0} (meaning : E → Meaning) (told : E → Notice → E → T
         checked (call.Switch c t) (has_cpu core c ∷ has_thread core t ∷ not_current core t ∷ []) r k (Changes c (Some t) r k) (refl, (refl, (refl, tt)))
         (λ passed d.
         let exists : c < sizes.cpus = ltb-true c sizes.cpus passed.0 in
-        let nowhere : cpu_of core t ≡ None = some_is (cpu_of core t) (not-true (is_some (cpu_of core t)) passed.1.1.0) in
+        let nowhere : cpu_of core t ≡ None = none_if_not_some (cpu_of core t) (not-true (is_some (cpu_of core t)) passed.1.1.0) in
         changed (call.Switch c t) c (Some t) exists
         (λ s is. (
-          subst (λ x. x < sizes.threads) (some_same is) (ltb-true t sizes.threads passed.1.0),
+          subst (λ x. x < sizes.threads) (same_Some _ _ is) (ltb-true t sizes.threads passed.1.0),
           λ other there. no_cpu_has core t nowhere other (inv.current other ∙ there ∙ sym is),
         )) (λ other. refl)
         (λ a y answer later same. subst (λ b. After (call.Switch c t) b y) (sym answer) (record { same_sizes = same; well = later; settlings = (refl, lived_so.settlings) })) r k d.0
@@ -250,7 +247,7 @@ module _ {E : Type 0} (meaning : E → Meaning) (told : E → Notice → E → T
         checked (call.Idle c) (has_cpu core c ∷ has_current core c ∷ []) r k (Changes c None r k) (refl, (refl, tt))
         (λ passed d.
         let exists : c < sizes.cpus = ltb-true c sizes.cpus passed.0 in
-        changed (call.Idle c) c None exists (λ s is. let z : ◌≡◌ {A = ℕ} 0 1 = cc in absurd (omega arith)) (λ other. refl)
+        changed (call.Idle c) c None exists (λ s is. cc) (λ other. refl)
         (λ a y answer later same. subst (λ b. After (call.Idle c) b y) (sym answer) (record { same_sizes = same; well = later; settlings = (refl, lived_so.settlings) })) r k d.0
         (disturbed_current meaning told answers has l m c inv exists (cpu_at core c).current (sym (inv.current c)) d.0 d.1) d.2)
         _ refl step
@@ -301,14 +298,14 @@ module _ {E : Type 0} (meaning : E → Meaning) (told : E → Notice → E → T
               (λ other there. subst (λ y. (meaning k.1).patience y ≡ 0) (inv.on_one_cpu c other t on there) quiet)) quiet becomes.elsewhere (λ other differs. refl)
               (λ other s differs there.
               let apart : s ≡ t → ⊥ = λ same. differs (inv.on_one_cpu other c t (there ∙ ap Some same) on) in
-              get_or-set_other later.threads t s _ no_thread apart ∙ calm.threads_else s (λ here. apart (some_same (sym here ∙ on)))))));
+              get_or-set_other later.threads t s _ no_thread apart ∙ calm.threads_else s (λ here. apart (same_Some _ _ (sym here ∙ on)))))));
           settlings = (refl, lived_so.settlings);
         })
 
     signal_by : (t : ℕ) (raw : RawOperation) (operation : Operation) → operation_of sizes raw ≡ Some operation → t < sizes.threads → (thread_at core t).depth < 8 → (r : Answered) (k : Core × E) (o : Option ℕ) → cpu_of core t ≡ o
         → Signals told answers m t operation o r k → After (call.Signal t raw) r k
     signal_by t raw operation is exists room r k None nowhere (answer, core_is, same) =
-        subst (λ a. After (call.Signal t raw) a k) (sym answer) (subst (After (call.Signal t raw) accepted) (sym (pair core_is same)) (signal_elsewhere t raw operation is exists room nowhere))
+        subst (λ a. After (call.Signal t raw) a k) (sym answer) (subst (After (call.Signal t raw) accepted) (sym (ap₂ (λ a b. (a, b)) core_is same)) (signal_elsewhere t raw operation is exists room nowhere))
     signal_by t raw operation is exists room r k (Some c) there (o, disturbs, grants) =
         let on : l.current c ≡ Some t = sym (inv.current c) ∙ cpu_has core t c there in
         let c_exists = (inv.current_exists c t on).0 in

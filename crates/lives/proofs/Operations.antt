@@ -10,6 +10,7 @@ use Rattle.model.specs.Calls.{operation_of}
 use Rattle.model.specs.Ledger.{Ledger, Waiting, Outcome, Fate, was_refused, was_accepted, has_settled, fate_of, updated, brings, pushes, pops, takes, does_whole, settle_top, settle_on, takes_in}
 use Rattle.model.specs.Life.{Event, ledger}
 use Rattle.model.specs.Claims.{with_number, brought_by, brought, settled, occurs, HasSettledOnce, WaitsOnce}
+use Rattle.lives.proofs.Nodes.{updated_here, updated_else}
 
 -- An operation among others: one more with its number, none more with another.
 one_more : (number : ℕ) (w : Waiting) (ws : List Waiting) → w.call ≡ number → occurs number (w ∷ ws) ≡ suc (occurs number ws)
@@ -20,21 +21,15 @@ none_more number w ws ne = ap (λ b. cond b 1 0 + occurs number ws) (ne_eqb w.ca
 
 -- The waiting lists with another one at one thread.
 module _ (waiting : ℕ → List Waiting) (thread : ℕ) (ws : List Waiting) where
-  at_it : (other : ℕ) → other ≡ thread → updated waiting thread ws other ≡ ws
-  at_it other e = ap (λ b. cond b ws (waiting other)) (eq-eqb other thread e)
-
-  elsewhere : (other : ℕ) → (other ≡ thread → ⊥) → updated waiting thread ws other ≡ waiting other
-  elsewhere other ne = ap (λ b. cond b ws (waiting other)) (ne_eqb other thread ne)
-
   -- A number that is as often in the new list as in the old one is in each thread as often as before.
   as_often : (number : ℕ) → occurs number ws ≡ occurs number (waiting thread) → (other : ℕ) → occurs number (updated waiting thread ws other) ≡ occurs number (waiting other)
   as_often number same other =
-      ⊎_elim (λ e. ap (occurs number) (at_it other e) ∙ same ∙ ap (λ t. occurs number (waiting t)) (sym e)) (λ ne. ap (occurs number) (elsewhere other ne)) (cases_eq other thread)
+      ⊎_elim (λ e. ap (λ t. occurs number (updated waiting thread ws t)) e ∙ ap (occurs number) (updated_here waiting thread ws) ∙ same ∙ ap (λ t. occurs number (waiting t)) (sym e)) (λ ne. ap (occurs number) (updated_else waiting thread ws other ne)) (cases_eq other thread)
 
   -- A number that is not in the new list and in no other thread is nowhere.
   nowhere_now : (number : ℕ) → occurs number ws ≡ 0 → ((other : ℕ) → (other ≡ thread → ⊥) → occurs number (waiting other) ≡ 0) → (other : ℕ) → occurs number (updated waiting thread ws other) ≡ 0
   nowhere_now number here there other =
-      ⊎_elim (λ e. ap (occurs number) (at_it other e) ∙ here) (λ ne. ap (occurs number) (elsewhere other ne) ∙ there other ne) (cases_eq other thread)
+      ⊎_elim (λ e. ap (λ t. occurs number (updated waiting thread ws t)) e ∙ ap (occurs number) (updated_here waiting thread ws) ∙ here) (λ ne. ap (occurs number) (updated_else waiting thread ws other ne) ∙ there other ne) (cases_eq other thread)
 
 -- What has become of the operation with a number: it was never brought, or it has settled once, or it waits once.
 record NeverBrought (number : ℕ) (waiting : ℕ → List Waiting) (done all : List Waiting) : Type 0 where
@@ -99,8 +94,8 @@ module _ (calls : ℕ) (waiting : ℕ → List Waiting) (done all : List Waiting
       brought = one_more number w all e ∙ ap suc n.not_brought;
       not_settled = n.not_settled;
       thread = thread;
-      once = ap (occurs number) (at_it waiting thread (w ∷ waiting thread) thread refl) ∙ one_more number w (waiting thread) e ∙ ap suc (n.waits_nowhere thread);
-      nowhere_else = λ other ne. ap (occurs number) (elsewhere waiting thread (w ∷ waiting thread) other ne) ∙ n.waits_nowhere other;
+      once = ap (occurs number) (updated_here waiting thread (w ∷ waiting thread)) ∙ one_more number w (waiting thread) e ∙ ap suc (n.waits_nowhere thread);
+      nowhere_else = λ other ne. ap (occurs number) (updated_else waiting thread (w ∷ waiting thread) other ne) ∙ n.waits_nowhere other;
     }
 
     kept_brought : Kept (suc calls) more done (w ∷ all)
@@ -243,6 +238,3 @@ nothing_invented sizes past number none = by ((always_kept sizes past).each numb
     by (settles s) = absurd (omega (arith, s.brought, none))
     by (waits w) = absurd (omega (arith, w.brought, none))
 
--- An operation of a call that is still to come waits nowhere.
-pub waiting_below : (sizes : Sizes) (past : List Event) (thread number : ℕ) → length past < number → occurs number ((ledger sizes past).waiting thread) ≡ 0
-waiting_below sizes past thread number h = ((always_kept sizes past).later number h).waits_nowhere thread

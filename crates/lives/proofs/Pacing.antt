@@ -1,5 +1,7 @@
 -- The pace of a CPU: what its trace says of how near its thread's operation is to its end.
-use Rattle.std.proofs.Common.{◌≡◌, ℕ, zero, suc, ◌+◌, ◌-◌, ◌*◌, ◌<◌, ◌≤◌, true, false, List, [], ◌∷◌, length, Some, sym, refl, ap, ◌∙◌, subst, arith}
+use Rattle.std.proofs.Common.{◌≡◌, ℕ, zero, suc, ◌+◌, ◌-◌, ◌*◌, ◌<◌, ◌≤◌, max, min, true, false, List, [], ◌∷◌, length, Some, sym, refl, ap, ◌∙◌, subst, arith}
+use Rattle.std.proofs.lemmas.Option.{same_Some}
+use Rattle.std.proofs.lemmas.List.Elements.{recursion_from_All, All-weaker, All-from_recursion}
 use Rattle.std.specs.List.{AllByRecursion}
 use Rattle.calls.specs.declared.Call.{Call}
 use Rattle.calls.specs.declared.Call.TheVariants as call
@@ -11,11 +13,9 @@ use Rattle.model.specs.State.{thread_at, cpu_at, top_frame}
 use Rattle.model.specs.Ledger.{Ledger}
 use Rattle.model.specs.Claims.{is_thread, Mark, instruction, held, about}
 use Rattle.lives.proofs.Midway.{words_of}
-use Rattle.lives.proofs.Standing.{RestartPoint, at_entry, at_abort, at_start, Invariant}
-use Rattle.lives.proofs.Keeping.{some_same}
+use Rattle.lives.proofs.Standing.{RestartPoint, at_entry, at_abort, at_start, Invariant, StandsThere, restarts_there, midway_there, stands_there}
 use Rattle.lives.proofs.Instructing.{to_go, from, from_entry, from_abort, from_section, few_words, known_within}
-use Rattle.lives.proofs.Disturbing.{StandsThere, restarts_there, midway_there, stands_there}
-use Rattle.lives.proofs.Traces.{waited, begun, prolonged, pending, InEight, InFive, in_eight_more, in_five_more}
+use Rattle.lives.proofs.Traces.{waited, pending, InEight, InFive, in_eight_more, in_five_more}
 use Rattle.lives.specs.Apart.{section_of_operation}
 use Rattle.lives.specs.Whole.{since}
 
@@ -47,7 +47,7 @@ module _ (l : Ledger) (m : Meaning) (core : Core) (c t : ℕ) (inv : Invariant l
           ap (from core.image inv.text operation) (at ∙ sym first) ∙ from_section core.image inv.text operation 0 (omega (arith, few.0)) in
           (omega (arith, is, few.0), omega (arith, is, few.1), λ patient. absurd (omega (arith, patient, calm)))
 
-      go : StandsThere l m core c t inv on some → Bounds
+      go : StandsThere m core c t → Bounds
       go (restarts_there at calm) = point at calm
       go (midway_there at) =
           let few = few_words operation in
@@ -75,12 +75,11 @@ about_same l k c (call.Switch cpu thread) same = refl
 about_same l k c (call.Idle cpu) same = refl
 about_same l k c (call.Signal thread raw) same = ap (is_thread thread) same
 
-all_mapped : {A : Type 0} (P Q : A → Type 0) (xs : List A) → ((x : A) → P x → Q x) → AllByRecursion P xs → AllByRecursion Q xs
-all_mapped P Q [] f all = tt
-all_mapped P Q (x ∷ xs) f all = (f x all.0, all_mapped P Q xs f all.1)
+abbrev About : Ledger → ℕ → Call → Type 0
+About l c x = about l c x ≡ true
 
 pub concerned_same : (l k : Ledger) (c : ℕ) (calls : List Call) → k.current c ≡ l.current c → AllByRecursion (λ (x : Call). about l c x ≡ true) calls → AllByRecursion (λ (x : Call). about k c x ≡ true) calls
-concerned_same l k c calls same all = all_mapped (λ (x : Call). about l c x ≡ true) (λ (x : Call). about k c x ≡ true) calls (λ x e. about_same l k c x same ∙ e) all
+concerned_same l k c calls same all = recursion_from_All (About k c) calls (All-weaker (About l c) (About k c) (λ x e. about_same l k c x same ∙ e) calls (All-from_recursion (About l c) calls all))
 
 -- A CPU whose thread is not touched.
 pub untouched : (l k : Ledger) (m n : Meaning) (core later : Core) (c : ℕ) (marks : List Mark) → later.image ≡ core.image → k.current c ≡ l.current c
@@ -108,16 +107,16 @@ pub paced_on : (l : Ledger) (m n : Meaning) (core later : Core) (c t : ℕ) (mar
     → to_go core.image (top_frame (thread_at later t)) + 4 ≡ to_go core.image (top_frame (thread_at core t)) → Paced l m core c marks → Paced l n later c (instruction false ∷ marks)
 paced_on l m n core later c t marks image inv on some still nearer paced = record {
   in_eight = in_eight_more (instruction false) marks paced.in_eight (omega (arith, ends.0, pace));
-  in_five = in_five_more (instruction false) marks paced.in_five (few (waited marks) refl);
+  in_five = in_five_more (instruction false) marks paced.in_five (grind (arith, ends.0, held_pace));
   pace = λ s there more. subst (λ x. 4 * suc (since marks) + to_go later.image (top_frame (thread_at later x)) ≤ 32) (same s there) pace;
-  pace_held = λ s there more waits. subst (λ x. 4 * prolonged (waited marks) + to_go later.image (top_frame (thread_at later x)) ≤ 24) (same s there) (held_pace (waited marks) refl waits);
+  pace_held = λ s there more waits. subst (λ x. 4 * (waited marks + min 1 (waited marks)) + to_go later.image (top_frame (thread_at later x)) ≤ 24) (same s there) (held_pace (omega arith));
   at_rest = λ s there none. absurd (omega (arith, still, ap (λ x. (thread_at later x).depth) (same s there), none));
   patient = λ s there h. omega arith;
   concerned = paced.concerned;
 }
   where
     same : (s : ℕ) → l.current c ≡ Some s → t ≡ s
-    same s there = some_same (sym on ∙ there)
+    same s there = same_Some _ _ (sym on ∙ there)
 
     ends : (4 ≤ to_go later.image (top_frame (thread_at later t))) × (to_go later.image (top_frame (thread_at later t)) ≤ 32) × (0 < n.patience c → to_go later.image (top_frame (thread_at later t)) ≤ 20)
     ends = bounds l n later c t inv on still
@@ -128,13 +127,8 @@ paced_on l m n core later c t marks image inv on some still nearer paced = recor
     pace : 4 * suc (since marks) + to_go later.image (top_frame (thread_at later t)) ≤ 32
     pace = omega (arith, left_is, nearer, paced.pace t on some)
 
-    held_pace : (w : ℕ) → waited marks ≡ w → 0 < prolonged w → 4 * prolonged w + to_go later.image (top_frame (thread_at later t)) ≤ 24
-    held_pace zero is more = absurd (omega (arith, more))
-    held_pace (suc w) is more = omega (arith, left_is, nearer, is, paced.pace_held t on some (omega (arith, is)))
-
-    few : (w : ℕ) → waited marks ≡ w → prolonged w ≤ 5
-    few zero is = omega arith
-    few (suc w) is = omega (arith, ends.0, held_pace (suc w) is (omega arith))
+    held_pace : 0 < waited marks → 4 * (waited marks + min 1 (waited marks)) + to_go later.image (top_frame (thread_at later t)) ≤ 24
+    held_pace waits = omega (arith, left_is, nearer, paced.pace_held t on some waits)
 
 -- A settling, or a call that is granted: the count begins anew.
 pub paced_anew : (l k : Ledger) (n : Meaning) (later : Core) (c : ℕ) (mark : Mark) (marks : List Mark) → InEight marks → InFive marks → since (mark ∷ marks) ≡ 0 → waited (mark ∷ marks) ≡ 0
@@ -154,10 +148,10 @@ pub paced_held : (l : Ledger) (m : Meaning) (core : Core) (c t : ℕ) (x : Call)
     → Paced l m core c marks → Paced l m core c (held x ∷ marks)
 paced_held l m core c t x marks inv on some patient concerns paced = record {
   in_eight = in_eight_more (held x) marks paced.in_eight (omega (arith, ends.0, paced.pace t on some));
-  in_five = in_five_more (held x) marks paced.in_five (few (waited marks) refl);
+  in_five = in_five_more (held x) marks paced.in_five (omega (arith, ends.0, held_pace));
   pace = paced.pace;
-  pace_held = λ s there more waits. subst (λ y. 4 * begun (waited marks) + to_go core.image (top_frame (thread_at core y)) ≤ 24) (some_same (sym on ∙ there)) (held_pace (waited marks) refl);
-  at_rest = λ s there none. absurd (omega (arith, some, ap (λ y. (thread_at core y).depth) (some_same (sym on ∙ there)), none));
+  pace_held = λ s there more waits. subst (λ y. 4 * max 1 (waited marks) + to_go core.image (top_frame (thread_at core y)) ≤ 24) (same_Some _ _ (sym on ∙ there)) held_pace;
+  at_rest = λ s there none. absurd (omega (arith, some, ap (λ y. (thread_at core y).depth) (same_Some _ _ (sym on ∙ there)), none));
   patient = paced.patient;
   concerned = (concerns, paced.concerned);
 }
@@ -165,12 +159,8 @@ paced_held l m core c t x marks inv on some patient concerns paced = record {
     ends : (4 ≤ to_go core.image (top_frame (thread_at core t))) × (to_go core.image (top_frame (thread_at core t)) ≤ 32) × (0 < m.patience c → to_go core.image (top_frame (thread_at core t)) ≤ 20)
     ends = bounds l m core c t inv on some
 
-    held_pace : (w : ℕ) → waited marks ≡ w → 4 * begun w + to_go core.image (top_frame (thread_at core t)) ≤ 24
-    held_pace zero is = omega (arith, ends.2 patient)
-    held_pace (suc w) is = omega (arith, is, paced.pace_held t on some (omega (arith, is)))
-
-    few : (w : ℕ) → waited marks ≡ w → begun w ≤ 5
-    few w is = omega (arith, ends.0, held_pace w is)
+    held_pace : 4 * max 1 (waited marks) + to_go core.image (top_frame (thread_at core t)) ≤ 24
+    held_pace = grind (arith, ends.2 patient, paced.pace_held t on some)
 
 -- A thread at rest gets an operation.
 pub paced_enlisted : (l k : Ledger) (m : Meaning) (core later : Core) (c t : ℕ) (marks : List Mark) → k.current c ≡ l.current c → l.current c ≡ Some t → (thread_at core t).depth ≡ 0 → 0 < (thread_at later t).depth

@@ -1,5 +1,6 @@
 -- What holds of every machine with a past, in the words of restartable sequences.
-use Rattle.std.proofs.Common.{◌≡◌, ℕ, ◌+◌, ◌*◌, ◌<◌, ◌≤◌, cond, ◌&&◌, leb, List, [], map, length, Some, None}
+use Rattle.std.proofs.Common.{◌≡◌, ℕ, ◌+◌, ◌*◌, ◌<◌, ◌≤◌, cond, ◌&&◌, leb, List, [], map, length, Some, None, sym, ap, ◌∙◌, subst, arith}
+use Rattle.std.proofs.lemmas.Option.{none-some, same_Some}
 use Rattle.std.specs.List.{AllByRecursion}
 use Rattle.image.specs.declared.fields.Sizes.{Sizes}
 use Rattle.image.specs.Layout.{Inside}
@@ -89,3 +90,20 @@ pub record Invariant (l : Ledger) (m : Meaning) (core : Core) : Type 0 where
   pub nodes : (node : ℕ) → found core.sizes l node ≡ cond (leb 1 node && leb node core.sizes.nodes) 1 0
   pub standing : (c : ℕ) → c < core.sizes.cpus → Standing core (m.patience c) c
   pub off_cpu : (t : ℕ) → t < core.sizes.threads → ((c : ℕ) → l.current c ≡ Some t → ⊥) → AllByRecursion (RestartPoint core.image) (frames_of (thread_at core t))
+
+-- How a CPU stands whose thread has an operation.
+pub data StandsThere (m : Meaning) (core : Core) (c t : ℕ) : Type 0 where
+  restarts_there : RestartPoint core.image (top_frame (thread_at core t)) → m.patience c ≡ 0 → StandsThere m core c t
+  midway_there : Midway core.sizes.packets core.image c (cpu_at core c) core.next (thread_at core t) → StandsThere m core c t
+
+pub stands_there : (l : Ledger) (m : Meaning) (core : Core) (c t : ℕ) → Invariant l m core → l.current c ≡ Some t → 0 < (thread_at core t).depth → StandsThere m core c t
+stands_there l m core c t inv on some = go (inv.standing c (inv.current_exists c t on).0)
+  where
+    same_thread : (s : ℕ) → (cpu_at core c).current ≡ Some s → s ≡ t
+    same_thread s there = same_Some _ _ (sym there ∙ inv.current c ∙ on)
+
+    go : Standing core (m.patience c) c → StandsThere m core c t
+    go (idle none calm) = absurd (none-some t (sym none ∙ inv.current c ∙ on))
+    go (resting s there rests calm) = let e = ap (λ x. (thread_at core x).depth) (same_thread s there) in absurd (omega (arith, some))
+    go (restarting s there more point calm) = restarts_there (subst (λ x. RestartPoint core.image (top_frame (thread_at core x))) (same_thread s there) point) calm
+    go (midway s there more at) = midway_there (subst (λ x. Midway core.sizes.packets core.image c (cpu_at core c) core.next (thread_at core x)) (same_thread s there) at)

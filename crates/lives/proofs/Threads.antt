@@ -21,13 +21,6 @@ operation_in frame = frame.operation
 abbrev operation_waiting : Waiting → Operation
 operation_waiting w = w.operation
 
--- Lists that begin with one thing.
-tail_same : {A : Type 0} {x y : A} {xs ys : List A} → x ∷ xs ≡ y ∷ ys → xs ≡ ys
-tail_same e = cc
-
-head_same : {A : Type 0} {x y : A} {xs ys : List A} → x ∷ xs ≡ y ∷ ys → x ≡ y
-head_same e = cc
-
 -- Frames go by the array and the depth alone.
 frames_as : (one other : Thread) → one.frames ≡ other.frames → one.depth ≡ other.depth → frames_of one ≡ frames_of other
 frames_as one other f d = ap (λ n. reverse (take n one.frames)) d ∙ ap (λ fs. reverse (take other.depth fs)) f
@@ -93,7 +86,7 @@ module _ (sizes : Sizes) (image : Image) (top : Waiting) (waiting : List Waiting
   both_waits = sym (ap (map operation_in) (frames_top thread stands.whole some)) ∙ stands.waits
 
   pub top_waits : (top_frame thread).operation ≡ top.operation
-  top_waits = head_same both_waits
+  top_waits = cc both_waits
 
   pub dropped_restarts : AllByRecursion (RestartPoint image) (frames_of later)
   dropped_restarts = subst (AllByRecursion (RestartPoint image)) (sym dropped_frames) stands.below
@@ -101,7 +94,7 @@ module _ (sizes : Sizes) (image : Image) (top : Waiting) (waiting : List Waiting
   pub dropped_stands : ThreadStands sizes image waiting later
   dropped_stands = record {
     whole = dropped_is_whole;
-    waits = ap (map operation_in) dropped_frames ∙ tail_same both_waits;
+    waits = let below : map operation_in (frames_of (dropped thread)) ≡ map operation_waiting waiting = cc both_waits in ap (map operation_in) dropped_frames ∙ below;
     valid = subst (AllByRecursion (λ (f : Frame). Valid sizes f.operation)) (sym dropped_frames) (all_dropped (λ (f : Frame). Valid sizes f.operation) thread stands.whole stands.valid);
     below = all_dropped (RestartPoint image) later dropped_is_whole dropped_restarts;
   }

@@ -1,6 +1,6 @@
 -- What has happened on a CPU, counted: how long it is since an instruction settled, how long a held call has waited, and
 -- which calls are pending. Bounds on the two counts, kept mark by mark, bound every window of the trace.
-use Rattle.std.proofs.Common.{◌≡◌, ℕ, zero, suc, ◌+◌, ◌<◌, ◌≤◌, true, false, ◌⊎◌, List, [], ◌∷◌, ◌++◌, replicate, sym, refl, ap, ◌∙◌, inl, inr, ⊎_elim, arith}
+use Rattle.std.proofs.Common.{◌≡◌, ℕ, zero, suc, ◌+◌, ◌<◌, ◌≤◌, max, min, true, false, ◌⊎◌, List, [], ◌∷◌, ◌++◌, replicate, sym, refl, ap, ◌∙◌, inl, inr, ⊎_elim, arith}
 use mathlib.Core.List.{tail}
 use Rattle.std.proofs.lemmas.Bool.{false≢true}
 use Rattle.std.specs.List.{AllByRecursion}
@@ -9,22 +9,14 @@ use Rattle.model.specs.Claims.{Mark, instruction, granted, held, instructions, N
 use Rattle.lives.specs.Whole.{since}
 
 -- A wait is 0 where no call waits, else one more than the instructions since the call was held. A held call begins a wait
--- where there is none; an instruction that does not settle prolongs one where there is one.
-abbrev pub begun : ℕ → ℕ
-begun zero = 1
-begun (suc n) = suc n
-
-abbrev pub prolonged : ℕ → ℕ
-prolonged zero = 0
-prolonged (suc n) = suc (suc n)
-
--- The wait of the oldest call that was held since the last instruction that settled and the last grant.
+-- where there is none; an instruction that does not settle prolongs one where there is one. This is the wait of the oldest
+-- call that was held since the last instruction that settled and the last grant.
 abbrev pub waited : List Mark → ℕ
 waited [] = 0
 waited (instruction true ∷ marks) = 0
-waited (instruction false ∷ marks) = prolonged (waited marks)
+waited (instruction false ∷ marks) = waited marks + min 1 (waited marks)
 waited (granted ∷ marks) = 0
-waited (held c ∷ marks) = begun (waited marks)
+waited (held c ∷ marks) = max 1 (waited marks)
 
 -- The calls that were held since the last grant.
 abbrev pub pending : List Mark → List Call
@@ -40,19 +32,6 @@ InEight marks = (after window before : List Mark) → marks ≡ after ++ (window
 -- Of the five instructions after a held call, with nothing granted between, one settles.
 abbrev pub InFive : List Mark → Type 0
 InFive marks = (c : Call) (after window before : List Mark) → marks ≡ after ++ (window ++ (held c ∷ before)) → NothingGranted window → instructions window ≡ 5 → Settles window
-
--- After a held call there is a wait, at least as long as before; an instruction makes a wait that there is longer by one.
-pub begun_some : (n : ℕ) → 1 ≤ begun n
-begun_some zero = omega arith
-begun_some (suc n) = omega arith
-
-pub begun_least : (n : ℕ) → n ≤ begun n
-begun_least zero = omega arith
-begun_least (suc n) = omega arith
-
-pub prolonged_some : (n : ℕ) → 0 < n → prolonged n ≡ suc n
-prolonged_some zero some = absurd (omega arith)
-prolonged_some (suc n) some = refl
 
 -- A window settles at its newest mark or at an older one; whether it settles is decided mark by mark.
 pub settles_older : (mark : Mark) (window : List Mark) → Settles window → Settles (mark ∷ window)
@@ -89,15 +68,15 @@ since_unsettled (held c ∷ window) before nothing unsettled =
     omega arith
 
 pub waited_unsettled : (c : Call) (window before : List Mark) → NothingGranted window → (Settles window → ⊥) → 1 + instructions window ≤ waited (window ++ (held c ∷ before))
-waited_unsettled c [] before nothing unsettled = omega (arith, begun_some (waited before))
+waited_unsettled c [] before nothing unsettled = omega arith
 waited_unsettled c (instruction true ∷ window) before nothing unsettled = absurd (unsettled (settles_here window))
 waited_unsettled c (instruction false ∷ window) before nothing unsettled =
     let rest = waited_unsettled c window before nothing.1 (λ s. unsettled (settles_older (instruction false) window s)) in
-    omega (arith, prolonged_some (waited (window ++ (held c ∷ before))) (omega arith))
+    omega arith
 waited_unsettled c (granted ∷ window) before nothing unsettled = absurd nothing.0
 waited_unsettled c (held d ∷ window) before nothing unsettled =
     let rest = waited_unsettled c window before nothing.1 (λ s. unsettled (settles_older (held d) window s)) in
-    omega (arith, begun_least (waited (window ++ (held c ∷ before))))
+    omega arith
 
 -- The instructions of two traces in a row are counted together.
 pub instructions_append : (xs ys : List Mark) → instructions (xs ++ ys) ≡ instructions xs + instructions ys
@@ -142,11 +121,11 @@ pub waited_run : (k : ℕ) (marks : List Mark) → 0 < waited marks → waited (
 waited_run zero marks some = omega arith
 waited_run (suc k) marks some =
     let rest = waited_run k marks some in
-    omega (arith, prolonged_some (waited (replicate k (instruction false) ++ marks)) (omega arith))
+    omega arith
 
 pub waited_none : (k : ℕ) (marks : List Mark) → waited marks ≡ 0 → waited (replicate k (instruction false) ++ marks) ≡ 0
 waited_none zero marks none = none
-waited_none (suc k) marks none = ap prolonged (waited_none k marks none)
+waited_none (suc k) marks none = let rest = waited_none k marks none in omega arith
 
 pub pending_run : (k : ℕ) (marks : List Mark) → pending (replicate k (instruction false) ++ marks) ≡ pending marks
 pending_run zero marks = refl

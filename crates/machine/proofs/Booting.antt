@@ -3,6 +3,7 @@ use Rattle.std.proofs.Common.{◌≡◌, ℕ, zero, suc, ◌+◌, ◌-◌, ◌<�
 use Rattle.std.specs.Fn.{Called, Mut}
 use Rattle.std.specs.Array.{IsFromFnResultFrom, IsFromFnResult}
 use Rattle.std.proofs.lemmas.List.{drop-replicate, take_more}
+use Rattle.std.proofs.lemmas.List.FromFn.{get_or-map-range_with_len}
 use Rattle.faults.specs.declared.Fault.{Fault}
 use Rattle.words.specs.Words.{kinds}
 use Rattle.image.specs.declared.fields.Sizes.{Sizes}
@@ -20,6 +21,7 @@ use Rattle.model.specs.declared.state.Image.{Image}
 use Rattle.model.specs.declared.state.Core.{Core}
 use Rattle.model.specs.State.{no_cpu, no_thread, cpu_at, new_thread, new_cpu, new_core, tabulated}
 use Rattle.model.specs.Calls.{section_checks, image_of, booted_core, all_left}
+use Rattle.model.proofs.Booting.{each, each_cpu}
 use Rattle.machine.specs.Sound.{Sound}
 
 -- A list by a function of the index, from what each call of a closure gave.
@@ -69,33 +71,18 @@ told_push told e [] m n f before last = (f, subst (λ x. told x n f) before last
 told_push told e (k ∷ ks) m n f (next, first, rest) last = (next, first, told_push told next ks m n f rest last)
 
 left_at : (cpu : ℕ) → cpu < 8 → get_or all_left cpu (Left 0) ≡ Left cpu
-left_at zero h = refl
-left_at (suc zero) h = refl
-left_at (suc (suc zero)) h = refl
-left_at (suc (suc (suc zero))) h = refl
-left_at (suc (suc (suc (suc zero)))) h = refl
-left_at (suc (suc (suc (suc (suc zero))))) h = refl
-left_at (suc (suc (suc (suc (suc (suc zero)))))) h = refl
-left_at (suc (suc (suc (suc (suc (suc (suc zero))))))) h = refl
-left_at (suc (suc (suc (suc (suc (suc (suc (suc cpu)))))))) h = absurd (omega arith)
+left_at cpu h = get_or-map-range_with_len Left 0 8 cpu cpu (Left 0) h (omega arith)
 
 pub left_more : {S : Type 0} (told : S → Notice → S → Type 0) (e : S) (cpu : ℕ) (m f : S) → cpu < 8 → ToldAll told e (take cpu all_left) m → told m (Left cpu) f → ToldAll told e (take (cpu + 1) all_left) f
 left_more told e cpu m f h before last =
     subst (λ xs. ToldAll told e xs f) (sym (take_more all_left cpu (Left 0) h ∙ ap (λ n. take cpu all_left ++ (n ∷ [])) (left_at cpu h))) (told_push told e (take cpu all_left) m (Left cpu) f before last)
-
--- What is repeated holds of each, and past the end.
-each : {A : Type 0} (P : A → Type 0) (x d : A) (k i : ℕ) → P x → P d → P (get_or (replicate k x) i d)
-each P x d zero i p q = q
-each P x d (suc k) zero p q = p
-each P x d (suc k) (suc i) p q = each P x d k i p q
 
 -- A new machine within the limits is sound.
 new_sound : (sizes : Sizes) (image : Image) → sizes.cpus ≤ 8 → sizes.threads ≤ 16 → image.text.count ≤ 256 → Sound (new_core sizes image)
 new_sound sizes image cpus threads count = (cpus, threads, count, idle, λ t. each (λ (x : Thread). x.q < 8) new_thread no_thread 16 t (omega arith) (omega arith))
   where
     idle : (c : ℕ) → unwrap_or (cpu_at (new_core sizes image) c).current 0 < 16
-    idle zero = omega arith
-    idle (suc c) = each (λ (x : Cpu). unwrap_or x.current 0 < 16) (new_cpu 0) no_cpu 7 c (omega arith) (omega arith)
+    idle c = each_cpu (λ (x : Cpu). unwrap_or x.current 0 < 16) sizes image c (λ first. omega arith) (omega arith)
 
 -- The checks of the image come first, and then those of the sections: refused by the first or the second, or booted.
 module _ (sizes : Sizes) (table text : List ℕ) (signature : ℕ) where

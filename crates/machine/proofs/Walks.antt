@@ -3,6 +3,7 @@ use Rattle.std.proofs.Common.{◌≡◌, ℕ, zero, suc, ◌-◌, ◌<◌, Bool,
 use Rattle.std.specs.List.{position_from}
 use Rattle.model.specs.declared.state.Cpu.{Cpu}
 use Rattle.model.specs.Questions.{reached}
+use Rattle.model.proofs.Asking.{reached_ends, reached_here, reached_on}
 use Rattle.lives.specs.Apart.{cpu_among}
 use Rattle.machine.specs.Promises.{Walks}
 use Rattle.model.specs.Claims.{is_thread}
@@ -13,24 +14,6 @@ first_with t c [] = refl
 first_with t c (cpu ∷ cpus) =
     ap (cond (is_thread t cpu.current) (Some c)) (ap (λ k. position_from (λ (x : Cpu). is_thread t x.current) k cpus) (omega arith) ∙ first_with t (suc c) cpus)
 
--- A walk ends where the end is met, has arrived where no step is left, and else goes on.
-module _ (ends : ℕ → Bool) (onward : ℕ → ℕ) where
-  pub reached_ends : (place steps : ℕ) → ends place ≡ true → reached ends onward place steps ≡ None
-  unfolding reached
-  reached_ends place zero e = ap (λ b. cond b None (Some place)) e
-  reached_ends place (suc steps) e = ap (λ b. cond b None (reached ends onward (onward place) steps)) e
-
-  pub reached_here : (place steps : ℕ) → ends place ≡ false → steps ≡ 0 → reached ends onward place steps ≡ Some place
-  unfolding reached
-  reached_here place zero e none = ap (λ b. cond b None (Some place)) e
-  reached_here place (suc steps) e none = absurd (omega arith)
-
-  pub reached_on : (place further steps : ℕ) → ends place ≡ false → 0 < steps → further ≡ onward place → reached ends onward place steps ≡ reached ends onward further (steps - 1)
-  unfolding reached
-  reached_on place further zero e some is = absurd (omega arith)
-  reached_on place further (suc steps) e some is =
-      ap (λ b. cond b None (reached ends onward (onward place) steps)) e ∙ ap (λ k. reached ends onward k steps) (sym is) ∙ ap (reached ends onward further) (omega arith)
-
 -- A walk that has come to a place, with so many steps left, by a test that answers and a step that leads.
 module _ (answers : ℕ → Bool → Type 0) (leads : ℕ → ℕ → Type 0) where
   abbrev pub OnTheWay : ℕ → ℕ → ℕ → ℕ → Type 0
@@ -38,13 +21,14 @@ module _ (answers : ℕ → Bool → Type 0) (leads : ℕ → ℕ → Type 0) wh
       (ends : ℕ → Bool) (onward : ℕ → ℕ) → ((x : ℕ) (b : Bool) → answers x b → b ≡ ends x) → ((x y : ℕ) → leads x y → y ≡ onward x)
       → reached ends onward place left ≡ reached ends onward first steps
 
-  pub walk_ends : (place left first steps : ℕ) → answers place true → OnTheWay place left first steps → Walks answers leads first steps None
-  walk_ends place left first steps answered way ends onward tests goes = sym (reached_ends ends onward place left (sym (tests place true answered))) ∙ way ends onward tests goes
+  pub walk_ends : (place left first steps : ℕ) {b : Bool} → answers place b → b ≡ true → OnTheWay place left first steps → Walks answers leads first steps None
+  walk_ends place left first steps {b} answered is way ends onward tests goes = sym (reached_ends ends onward place left (sym (tests place b answered) ∙ is)) ∙ way ends onward tests goes
 
-  pub walk_arrives : (place left first steps : ℕ) → answers place false → left ≡ 0 → OnTheWay place left first steps → Walks answers leads first steps (Some place)
-  walk_arrives place left first steps answered none way ends onward tests goes =
-      sym (reached_here ends onward place left (sym (tests place false answered)) none) ∙ way ends onward tests goes
+  pub walk_arrives : (place left first steps : ℕ) {b : Bool} → answers place b → b ≡ false → left ≡ 0 → OnTheWay place left first steps → Walks answers leads first steps (Some place)
+  walk_arrives place left first steps {b} answered is none way ends onward tests goes =
+      sym (ap (reached ends onward place) none ∙ reached_here ends onward place (sym (tests place b answered) ∙ is)) ∙ way ends onward tests goes
 
-  pub walk_goes_on : (place further left less first steps : ℕ) → answers place false → leads place further → 0 < left → less ≡ left - 1 → OnTheWay place left first steps → OnTheWay further less first steps
-  walk_goes_on place further left less first steps answered led some one way ends onward tests goes =
-      ap (reached ends onward further) one ∙ sym (reached_on ends onward place further left (sym (tests place false answered)) some (goes place further led)) ∙ way ends onward tests goes
+  pub walk_goes_on : (place further left less first steps : ℕ) {b : Bool} → answers place b → b ≡ false → leads place further → 0 < left → less ≡ left - 1 → OnTheWay place left first steps → OnTheWay further less first steps
+  walk_goes_on place further left less first steps {b} answered is led some one way ends onward tests goes =
+      sym (ap (reached ends onward place) (omega arith) ∙ reached_on ends onward place less (sym (tests place b answered) ∙ is) ∙ ap (λ p. reached ends onward p less) (sym (goes place further led)))
+      ∙ way ends onward tests goes

@@ -1,6 +1,6 @@
 -- What the questions tell where the structures and hands are the ledger's.
-use Rattle.std.proofs.Common.{◌≡◌, ℕ, zero, suc, ◌+◌, ◌%◌, ◌<◌, ◌≤◌, Bool, true, false, cond, eqb, List, [], ◌∷◌, length, get_or, Some, None, Ok, Err, sym, ap, ◌∙◌, mod-eq_of_lt, arith}
-use Rattle.std.proofs.lemmas.Bool.{lt-ltb, eq-eqb, ne_eqb}
+use Rattle.std.proofs.Common.{◌≡◌, ℕ, zero, suc, ◌+◌, ◌%◌, ◌<◌, ◌≤◌, Bool, true, false, cond, eqb, ltb, List, [], ◌∷◌, length, get_or, Some, None, Ok, Err, sym, ap, ◌∙◌, mod-eq_of_lt, arith}
+use Rattle.std.proofs.lemmas.Bool.{lt-ltb, eq-eqb, ne_eqb, cond-true}
 use Rattle.faults.specs.declared.Fault.{Fault}
 use Rattle.model.specs.declared.state.Cpu.{Cpu}
 use Rattle.model.specs.State.{thread_at, cpu_at}
@@ -8,19 +8,20 @@ use Rattle.model.specs.Calls.{has_cpu, has_thread}
 use Rattle.model.specs.Questions.{reached, item_there, list_item, ring_item, has_counter, item_at}
 use Rattle.model.specs.Claims.{Listed, InRing}
 use Rattle.model.specs.Laws.{AgreeingQuestionsTell}
-use Rattle.model.proofs.Rings.{further, behind_is}
+use native.Mathlib.Nat.{mod-add-mod}
+use Rattle.model.proofs.Rings.{further}
 
 module _ (ends : ℕ → Bool) (onward : ℕ → ℕ) where
-  reached_ends : (place steps : ℕ) → ends place ≡ true → reached ends onward place steps ≡ None
+  pub reached_ends : (place steps : ℕ) → ends place ≡ true → reached ends onward place steps ≡ None
   unfolding reached
   reached_ends place zero e = ap (λ b. cond b None (Some place)) e
   reached_ends place (suc steps) e = ap (λ b. cond b None (reached ends onward (onward place) steps)) e
 
-  reached_here : (place : ℕ) → ends place ≡ false → reached ends onward place 0 ≡ Some place
+  pub reached_here : (place : ℕ) → ends place ≡ false → reached ends onward place 0 ≡ Some place
   unfolding reached
   reached_here place e = ap (λ b. cond b None (Some place)) e
 
-  reached_on : (place steps : ℕ) → ends place ≡ false → reached ends onward place (suc steps) ≡ reached ends onward (onward place) steps
+  pub reached_on : (place steps : ℕ) → ends place ≡ false → reached ends onward place (suc steps) ≡ reached ends onward (onward place) steps
   unfolding reached
   reached_on place steps e = ap (λ b. cond b None (reached ends onward (onward place) steps)) e
 
@@ -50,7 +51,7 @@ module _ (slots : List ℕ) (packets start tail : ℕ) where
       ∙ ap Some (ap (λ k. get_or slots (k % (packets + 1)) 0) (omega arith) ∙ holds 0 (omega arith))
   ringed (packet ∷ ring) i (suc position) few ends holds =
       ap (item_there (λ slot. get_or slots slot 0)) (reached_on (λ slot. eqb slot tail) (λ slot. (slot + 1) % (packets + 1)) ((start + i) % (packets + 1)) position (more packet ring i few ends))
-      ∙ ap (λ k. item_there (λ slot. get_or slots slot 0) (reached (λ slot. eqb slot tail) (λ slot. (slot + 1) % (packets + 1)) k position)) (behind_is (packets + 1) (start + i) ∙ ap (λ k. k % (packets + 1)) (omega arith))
+      ∙ ap (λ k. item_there (λ slot. get_or slots slot 0) (reached (λ slot. eqb slot tail) (λ slot. (slot + 1) % (packets + 1)) k position)) (mod-add-mod (start + i) (packets + 1) 1 ∙ ap (λ k. k % (packets + 1)) (omega arith))
       ∙ ringed ring (i + 1) position (omega arith) (ends ∙ ap (λ k. (start + k) % (packets + 1)) (omega arith)) (λ j h. ap (λ k. get_or slots (k % (packets + 1)) 0) (omega arith) ∙ holds (suc j) (omega arith))
 
 ring_told : (packets : ℕ) (cpu : Cpu) (ring : List ℕ) (position : ℕ) → cpu.head ≤ packets → InRing packets cpu ring
@@ -61,17 +62,11 @@ ring_told packets cpu ring position head r =
     ∙ ringed cpu.slots packets cpu.head cpu.tail ring 0 position (let h = r.at_most in omega arith) (r.up_to_the_tail ∙ ap (λ k. (cpu.head + k) % (packets + 1)) (omega arith))
     (λ j h. ap (λ k. get_or cpu.slots ((cpu.head + k) % (packets + 1)) 0) (omega arith) ∙ r.slot j h)
 
--- Checks that pass.
-one_passes : {X : Type 0} (x y : X) (b : Bool) (fault : Fault) → b ≡ true → x ≡ y → cond b (Ok x) (Err fault) ≡ Ok y
-one_passes x y b fault e same = ap (λ t. cond t (Ok x) (Err fault)) e ∙ ap Ok same
-
-two_pass : {X : Type 0} (x y : X) (a b : Bool) (fault other : Fault) → a ≡ true → b ≡ true → x ≡ y → cond a (cond b (Ok x) (Err other)) (Err fault) ≡ Ok y
-two_pass x y a b fault other d e same = ap (λ t. cond t (cond b (Ok x) (Err other)) (Err fault)) d ∙ one_passes x y b other e same
-
+-- The checks pass.
 pub agreeing_tell : AgreeingQuestionsTell
 agreeing_tell l core agree heads = record {
-  counters = λ cpu counter c k. two_pass (get_or (cpu_at core cpu).counters counter 0) _ _ _ (has_cpu core cpu).fault (has_counter core counter).fault (lt-ltb cpu core.sizes.cpus c) (lt-ltb counter core.sizes.counters k) (agree.counters cpu counter c k);
-  list_items = λ cpu position c. one_passes (list_item core (cpu_at core cpu) position) _ _ (has_cpu core cpu).fault (lt-ltb cpu core.sizes.cpus c) (listed_item core.next (cpu_at core cpu).list (l.lists cpu) position (agree.lists cpu c));
-  ring_items = λ cpu position c. one_passes (ring_item core (cpu_at core cpu) position) _ _ (has_cpu core cpu).fault (lt-ltb cpu core.sizes.cpus c) (ring_told core.sizes.packets (cpu_at core cpu) (l.rings cpu) position (heads cpu c) (agree.rings cpu c));
-  hands = λ thread t. one_passes (thread_at core thread).hand _ _ (has_thread core thread).fault (lt-ltb thread core.sizes.threads t) (agree.hands thread t);
+  counters = λ cpu counter c k. cond-true (ltb cpu core.sizes.cpus) _ _ (lt-ltb cpu core.sizes.cpus c) ∙ cond-true (ltb counter core.sizes.counters) _ _ (lt-ltb counter core.sizes.counters k) ∙ ap Ok (agree.counters cpu counter c k);
+  list_items = λ cpu position c. cond-true (ltb cpu core.sizes.cpus) _ _ (lt-ltb cpu core.sizes.cpus c) ∙ ap Ok (listed_item core.next (cpu_at core cpu).list (l.lists cpu) position (agree.lists cpu c));
+  ring_items = λ cpu position c. cond-true (ltb cpu core.sizes.cpus) _ _ (lt-ltb cpu core.sizes.cpus c) ∙ ap Ok (ring_told core.sizes.packets (cpu_at core cpu) (l.rings cpu) position (heads cpu c) (agree.rings cpu c));
+  hands = λ thread t. cond-true (ltb thread core.sizes.threads) _ _ (lt-ltb thread core.sizes.threads t) ∙ ap Ok (agree.hands thread t);
 }

@@ -11,15 +11,12 @@ use Rattle.model.specs.Claims.{Listed}
 use Rattle.model.specs.Laws.{NewAgrees}
 
 -- What is repeated holds of each, and past the end.
-each : {A : Type 0} (P : A → Type 0) (x d : A) (k i : ℕ) → P x → P d → P (get_or (replicate k x) i d)
+pub each : {A : Type 0} (P : A → Type 0) (x d : A) (k i : ℕ) → P x → P d → P (get_or (replicate k x) i d)
 each P x d zero i p q = q
 each P x d (suc k) zero p q = p
 each P x d (suc k) (suc i) p q = each P x d k i p q
 
-zeros : (k i : ℕ) → ◌≡◌ {A = ℕ} (get_or (replicate k 0) i 0) 0
-zeros k i = each (λ n. n ≡ 0) 0 0 k i refl refl
-
-each_cpu : (P : Cpu → Type 0) (sizes : Sizes) (image : Image) (cpu : ℕ) → ((first : ℕ) → P (new_cpu first)) → P no_cpu → P (cpu_at (new_core sizes image) cpu)
+pub each_cpu : (P : Cpu → Type 0) (sizes : Sizes) (image : Image) (cpu : ℕ) → ((first : ℕ) → P (new_cpu first)) → P no_cpu → P (cpu_at (new_core sizes image) cpu)
 each_cpu P sizes image zero new none = new _
 each_cpu P sizes image (suc cpu) new none = each P (new_cpu 0) no_cpu 7 cpu (new 0) none
 
@@ -53,7 +50,7 @@ module _ (n : ℕ) (few : n ≤ 255) where
 
 pub new_agrees : NewAgrees
 new_agrees sizes image few = record {
-  counters = λ cpu counter c k. each_cpu (λ x. get_or x.counters counter 0 ≡ 0) sizes image cpu (λ first. zeros 8 counter) refl;
+  counters = λ cpu counter c k. each_cpu (λ x. get_or x.counters counter 0 ≡ 0) sizes image cpu (λ first. each (λ n. n ≡ 0) 0 0 8 counter refl refl) refl;
   lists = λ cpu c. lists cpu;
   rings = λ cpu c. record {
     at_most = omega arith;

@@ -1,6 +1,7 @@
 -- What holds of every call.
-use Rattle.std.proofs.Common.{◌≡◌, ℕ, zero, suc, ◌+◌, ◌-◌, ◌<◌, Bool, true, false, eqb, Some, None, Ok, Err, MatchBool, Option, Result, sym, refl, ap, ◌∙◌, subst, ⊎_elim, arith, get_or-set_other}
-use Rattle.std.proofs.lemmas.Bool.{cases_order}
+use Rattle.std.proofs.Common.{◌≡◌, ℕ, zero, suc, ◌<◌, ◌≤◌, Bool, true, false, eqb, Some, None, Ok, Err, MatchBool, Option, Result, sym, refl, ap, ap₂, ◌∙◌, subst, ⊎_elim, arith, get_or-set_other}
+use Rattle.std.proofs.lemmas.Bool.{cases_lt, cases_order}
+use Rattle.std.proofs.lemmas.Option.{none-some}
 use Rattle.faults.specs.declared.Fault.{Fault}
 use Rattle.calls.specs.declared.Call.{Call}
 use Rattle.calls.specs.declared.Call.TheVariants as call
@@ -14,16 +15,6 @@ use Rattle.model.specs.Words.{performed}
 use Rattle.model.specs.Calls.{Answered, refused, accepted, ran, advanced, operation_of, cpu_of, after_verdict, with_thread, Disturbs, DisturbsCurrent, Granted, ByChecks, ToldIf, Performs, Runs, none, more, Stopped, ByCurrent, ByOperation, with_frame, with_current, Signals, Step}
 use Rattle.model.specs.Laws.{RefusedChangesNothing, OnlyTheStructuresOfQ, OnlyItsOwnThread, Determined}
 
--- Answers that differ.
-pub accepted_refused : {P : Type 0} {f : Fault} → refused f ≡ accepted → P
-accepted_refused e = let z : ◌≡◌ {A = ℕ} 0 1 = cc in absurd (omega arith)
-
-pub ran_refused : {P : Type 0} {f : Fault} {s : Option Settling} → refused f ≡ ran s → P
-ran_refused e = let z : ◌≡◌ {A = ℕ} 0 1 = cc in absurd (omega arith)
-
-pub advanced_refused : {P : Type 0} {f : Fault} {n : ℕ} {s : Option Settling} → refused f ≡ advanced n s → P
-advanced_refused e = let z : ◌≡◌ {A = ℕ} 0 1 = cc in absurd (omega arith)
-
 module _ {E : Type 0} (told : E → Notice → E → Type 0) (answers : E → ℕ → ℕ → ℕ → Verdict → Type 0) where
   -- A call whose checks are tried: refused, or done.
   unless : (m : Core × E) (x : Result (Unit {0}) Fault) (r : Answered) (k : Core × E) (done : Type 0) → ByChecks told answers m x r k done → (done → k ≡ m) → k ≡ m
@@ -32,30 +23,30 @@ module _ {E : Type 0} (told : E → Notice → E → Type 0) (answers : E → �
 
   granted_refused : (m : Core × E) (cpu : ℕ) (o : Option Core) (rest : Core → Core) (fault : Fault) (k : Core × E) → Granted told answers m cpu o rest (refused fault) k → k ≡ m
   granted_refused m cpu None rest fault k g = g.1
-  granted_refused m cpu (Some core) rest fault k g = accepted_refused g.0
+  granted_refused m cpu (Some core) rest fault k g = cc
 
   signal_refused : (m : Core × E) (t : ℕ) (operation : Operation) (o : Option ℕ) (fault : Fault) (k : Core × E) → Signals told answers m t operation o (refused fault) k → k ≡ m
-  signal_refused m t operation None fault k s = accepted_refused s.0
+  signal_refused m t operation None fault k s = cc
   signal_refused m t operation (Some cpu) fault k s = granted_refused m cpu s.0 (with_frame told answers t operation) fault k s.2
 
-  by_operation : (o : Option Operation) (P : Operation → Type 0) (Q : Type 0) → ByOperation told answers o P → ((operation : Operation) → P operation → Q) → Q
+  pub by_operation : (o : Option Operation) (P : Operation → Type 0) (Q : Type 0) → ByOperation told answers o P → ((operation : Operation) → P operation → Q) → Q
   by_operation None P Q d then = absurd d
   by_operation (Some operation) P Q d then = then operation d
 
-  by_current : (o : Option ℕ) (P : ℕ → Type 0) (Q : Type 0) → ByCurrent told answers o P → ((t : ℕ) → P t → Q) → Q
+  pub by_current : (o : Option ℕ) (P : ℕ → Type 0) (Q : Type 0) → ByCurrent told answers o P → ((t : ℕ) → P t → Q) → Q
   by_current None P Q d then = absurd d
   by_current (Some t) P Q d then = then t d
 
   pub refused_stays : RefusedChangesNothing told answers
   refused_stays m (call.Enlist t raw) fault k s =
       unless m _ (refused fault) k _ s
-      (λ d. by_operation (operation_of m.0.sizes raw) (λ operation. (refused fault ≡ accepted) × (k.0 ≡ with_frame told answers t operation m.0) × (k.1 ≡ m.1)) (k ≡ m) d (λ operation p. accepted_refused p.0))
+      (λ d. by_operation (operation_of m.0.sizes raw) (λ operation. (refused fault ≡ accepted) × (k.0 ≡ with_frame told answers t operation m.0) × (k.1 ≡ m.1)) (k ≡ m) d (λ operation p. cc))
   refused_stays m (call.Run cpu) fault k s =
       unless m _ (refused fault) k _ s
-      (λ d. by_current (cpu_at m.0 cpu).current (λ t. (settling : Option Settling) × (refused fault ≡ ran settling) × Performs told answers m cpu t settling k) (k ≡ m) d (λ t p. ran_refused p.1))
+      (λ d. by_current (cpu_at m.0 cpu).current (λ t. (settling : Option Settling) × (refused fault ≡ ran settling) × Performs told answers m cpu t settling k) (k ≡ m) d (λ t p. cc))
   refused_stays m (call.Advance cpu n) fault k s =
       unless m _ (refused fault) k _ s
-      (λ d. by_current (cpu_at m.0 cpu).current (λ t. (count : ℕ) × (settling : Option Settling) × (refused fault ≡ advanced count settling) × Stopped told answers n count settling × Runs told answers cpu t count settling m k) (k ≡ m) d (λ t p. advanced_refused p.2))
+      (λ d. by_current (cpu_at m.0 cpu).current (λ t. (count : ℕ) × (settling : Option Settling) × (refused fault ≡ advanced count settling) × Stopped told answers n count settling × Runs told answers cpu t count settling m k) (k ≡ m) d (λ t p. cc))
   refused_stays m (call.Switch cpu t) fault k s =
       unless m _ (refused fault) k ((o : Option Core) × DisturbsCurrent told answers m cpu (cpu_at m.0 cpu).current o × Granted told answers m cpu o (with_current told answers cpu (Some t)) (refused fault) k) s
       (λ d. granted_refused m cpu d.0 (with_current told answers cpu (Some t)) fault k d.2)
@@ -73,9 +64,6 @@ pub only_own : OnlyItsOwnThread
 only_own core cpu t s ne = get_or-set_other core.threads t s _ no_thread ne
 
 -- Over an exclusion whose reactions are determined, everything is.
-pair : {A B : Type 0} {a c : A} {b d : B} → a ≡ c → b ≡ d → ◌≡◌ {A = A × B} (a, b) (c, d)
-pair p q = cc
-
 module _ {E : Type 0} (told : E → Notice → E → Type 0) (answers : E → ℕ → ℕ → ℕ → Verdict → Type 0) (one : Determined told answers) where
   abbrev Same : Answered → Answered → Core × E → Core × E → Type 0
   Same r s k l = (r ≡ s) × (k ≡ l)
@@ -90,7 +78,7 @@ module _ {E : Type 0} (told : E → Notice → E → Type 0) (answers : E → �
   one_told_if e (Some n) f g p q = one.becomes_one e n f g p q
 
   one_performs : (m : Core × E) (cpu t : ℕ) (a b : Option Settling) (k l : Core × E) → Performs told answers m cpu t a k → Performs told answers m cpu t b l → (a ≡ b) × (k ≡ l)
-  one_performs m cpu t a b k l p q = (p.1 ∙ sym q.1, pair (p.0 ∙ sym q.0) (one_told_if m.1 (performed m.0 cpu t).notice k.1 l.1 p.2 q.2))
+  one_performs m cpu t a b k l p q = (p.1 ∙ sym q.1, ap₂ (λ a b. (a, b)) (p.0 ∙ sym q.0) (one_told_if m.1 (performed m.0 cpu t).notice k.1 l.1 p.2 q.2))
 
   one_disturbs : (m : Core × E) (cpu t : ℕ) (o p : Option Core) → Disturbs told answers m cpu t o → Disturbs told answers m cpu t p → o ≡ p
   one_disturbs m cpu t o p d f = go (eqb (thread_at m.0 t).depth 0) d f
@@ -108,7 +96,7 @@ module _ {E : Type 0} (told : E → Notice → E → Type 0) (answers : E → �
 
   one_granted : (m : Core × E) (cpu : ℕ) (o : Option Core) (rest : Core → Core) (r s : Answered) (k l : Core × E) → Granted told answers m cpu o rest r k → Granted told answers m cpu o rest s l → Same r s k l
   one_granted m cpu None rest r s k l d f = (d.0 ∙ sym f.0, d.1 ∙ sym f.1)
-  one_granted m cpu (Some core) rest r s k l d f = (d.0 ∙ sym f.0, pair (d.1 ∙ sym f.1) (one.becomes_one m.1 _ k.1 l.1 d.2 f.2))
+  one_granted m cpu (Some core) rest r s k l d f = (d.0 ∙ sym f.0, ap₂ (λ a b. (a, b)) (d.1 ∙ sym f.1) (one.becomes_one m.1 _ k.1 l.1 d.2 f.2))
 
   one_granted_after : (m : Core × E) (cpu : ℕ) (o p : Option Core) (rest : Core → Core) (r s : Answered) (k l : Core × E) → o ≡ p → Granted told answers m cpu o rest r k → Granted told answers m cpu p rest s l → Same r s k l
   one_granted_after m cpu o p rest r s k l e d f = one_granted m cpu p rest r s k l (subst (λ x. Granted told answers m cpu x rest r k) e d) f
@@ -125,29 +113,18 @@ module _ {E : Type 0} (told : E → Notice → E → Type 0) (answers : E → �
   one_length cpu t (suc n) a b m p q (more {p = u} r x) (more {p = v} r' y) =
       one_performs v cpu t a b p q (subst (λ w. Performs told answers w cpu t a p) (one_quiet cpu t n m u v r r') x) y
 
-  abbrev up : ℕ → ℕ → ℕ
-  up zero n = n
-  up (suc d) n = suc (up d n)
-
   -- Longer runs begin with shorter ones that settle nothing.
-  shorter : (cpu t d n : ℕ) (b : Option Settling) (m q : Core × E) → Runs told answers cpu t (suc (up d n)) b m q → (p : Core × E) × Runs told answers cpu t n None m p
-  shorter cpu t zero n b m q (more {p = u} r x) = (u, r)
-  shorter cpu t (suc d) n b m q (more {p = u} r x) = shorter cpu t d n None m u r
-
-  up_is : (d n : ℕ) → up d n ≡ d + n
-  up_is zero n = omega arith
-  up_is (suc d) n = let h = up_is d n in omega arith
-
-  some_none : {P : Type 0} {x : Settling} → ◌≡◌ {A = Option Settling} (Some x) None → P
-  some_none e = let z : ◌≡◌ {A = ℕ} 0 1 = cc in absurd (omega arith)
+  shorter : (cpu t n k : ℕ) (b : Option Settling) (m q : Core × E) → n < k → Runs told answers cpu t k b m q → (p : Core × E) × Runs told answers cpu t n None m p
+  shorter cpu t n zero b m q less none = absurd (omega arith)
+  shorter cpu t n (suc k) b m q less (more {p = u} r x) =
+      ⊎_elim (λ (low : n < k). shorter cpu t n k None m u low r) (λ (high : k ≤ n). (u, subst (λ i. Runs told answers cpu t i None m u) (omega arith) r)) (cases_lt n k)
 
   not_shorter : (cpu t n a b : ℕ) (x y : Option Settling) (m k l : Core × E) → Stopped told answers n a x → Stopped told answers n b y → Runs told answers cpu t a x m k → Runs told answers cpu t b y m l → a < b → ⊥
   not_shorter cpu t n a b None None m k l u v p q lt = omega arith
   not_shorter cpu t n a b None (Some y) m k l u v p q lt = omega arith
   not_shorter cpu t n a b (Some x) y m k l u v p q lt =
-      let long : b ≡ suc (up (b - a - 1) a) = let h = up_is (b - a - 1) a in omega arith in
-      let short = shorter cpu t (b - a - 1) a y m l (subst (λ c. Runs told answers cpu t c y m l) long q) in
-      some_none (one_length cpu t a (Some x) None m k short.0 p short.1).0
+      let short = shorter cpu t a b y m l lt q in
+      none-some x (sym (one_length cpu t a (Some x) None m k short.0 p short.1).0)
 
   one_stop : (cpu t n a b : ℕ) (x y : Option Settling) (m k l : Core × E) → Stopped told answers n a x → Stopped told answers n b y → Runs told answers cpu t a x m k → Runs told answers cpu t b y m l
       → Same (advanced a x) (advanced b y) k l
@@ -165,7 +142,7 @@ module _ {E : Type 0} (told : E → Notice → E → Type 0) (answers : E → �
   one_current (Some t) P Q R d f then = then t d f
 
   one_signal : (m : Core × E) (t : ℕ) (operation : Operation) (o : Option ℕ) (r s : Answered) (k l : Core × E) → Signals told answers m t operation o r k → Signals told answers m t operation o s l → Same r s k l
-  one_signal m t operation None r s k l d f = (d.0 ∙ sym f.0, pair (d.1 ∙ sym f.1) (d.2 ∙ sym f.2))
+  one_signal m t operation None r s k l d f = (d.0 ∙ sym f.0, ap₂ (λ a b. (a, b)) (d.1 ∙ sym f.1) (d.2 ∙ sym f.2))
   one_signal m t operation (Some cpu) r s k l d f = one_granted_after m cpu d.0 f.0 (with_frame told answers t operation) r s k l (one_disturbs m cpu t d.0 f.0 d.1 f.1) d.2 f.2
 
   abbrev Enlists : Core × E → ℕ → Operation → Answered → Core × E → Type 0
@@ -186,7 +163,7 @@ module _ {E : Type 0} (told : E → Notice → E → Type 0) (answers : E → �
   pub one_outcome : (m : Core × E) (c : Call) (r s : Answered) (k l : Core × E) → Step told answers m c r k → Step told answers m c s l → Same r s k l
   one_outcome m (call.Enlist t raw) r s k l d f =
       one_unless m _ r s k l _ _ d f
-      (λ p q. one_operation (operation_of m.0.sizes raw) (λ o. Enlists m t o r k) (λ o. Enlists m t o s l) (Same r s k l) p q (λ o x y. (x.0 ∙ sym y.0, pair (x.1 ∙ sym y.1) (x.2 ∙ sym y.2))))
+      (λ p q. one_operation (operation_of m.0.sizes raw) (λ o. Enlists m t o r k) (λ o. Enlists m t o s l) (Same r s k l) p q (λ o x y. (x.0 ∙ sym y.0, ap₂ (λ a b. (a, b)) (x.1 ∙ sym y.1) (x.2 ∙ sym y.2))))
   one_outcome m (call.Run cpu) r s k l d f =
       one_unless m _ r s k l _ _ d f
       (λ p q. one_current (cpu_at m.0 cpu).current (λ t. RunsOnce m cpu t r k) (λ t. RunsOnce m cpu t s l) (Same r s k l) p q

@@ -30,11 +30,11 @@ module _ {E : Type 0} (told : E → Notice → E → Type 0) (answers : E → �
   with_checks m checks done then (Err fault) is = (refused fault, m, (refl, refl))
 
   with_operation : (o : Option Operation) (P : Operation → Answered → Core × E → Type 0) → is_some o ≡ true → ((operation : Operation) → Outcome (P operation)) → Outcome (λ r k. ByOperation told answers o (λ operation. P operation r k))
-  with_operation None P is then = let z : ◌≡◌ {A = ℕ} 0 1 = cc in absurd (omega arith)
+  with_operation None P is then = cc
   with_operation (Some operation) P is then = then operation
 
   with_current : (o : Option ℕ) (P : ℕ → Answered → Core × E → Type 0) → is_some o ≡ true → ((t : ℕ) → Outcome (P t)) → Outcome (λ r k. ByCurrent told answers o (λ t. P t r k))
-  with_current None P is then = let z : ◌≡◌ {A = ℕ} 0 1 = cc in absurd (omega arith)
+  with_current None P is then = cc
   with_current (Some t) P is then = then t
 
   -- One instruction, and as many as an advance wants.

@@ -14,7 +14,3 @@ further slots i d some near same =
     let less : r + d - slots < slots = omega arith in
     let e : (r + d) % slots ≡ r + d - slots = mod-eq-sub-mod round ∙ mod-eq_of_lt less in
     omega arith) (cases_lt (r + d) slots)
-
--- The slot behind a slot.
-pub behind_is : (slots i : ℕ) → (i % slots + 1) % slots ≡ (i + 1) % slots
-behind_is slots i = mod-add-mod i slots 1

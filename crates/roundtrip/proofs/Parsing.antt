@@ -28,7 +28,7 @@ pub record Split {X Y : Type 0} (r : Read X) (next : X → ℕ → Read Y) (z : 
   pub second : next value at ≡ Ok z
 
 pub err_no_ok : {X P : Type 0} {f : Fault} {x : X} → ◌≡◌ {A = Result X Fault} (Err f) (Ok x) → P
-err_no_ok e = let z : ◌≡◌ {A = ℕ} 0 1 = cc in absurd (omega arith)
+err_no_ok e = cc
 
 pub split : {X Y : Type 0} (r : Read X) (next : X → ℕ → Read Y) (z : Y × ℕ) → and_then r next ≡ Ok z → Split r next z
 split (Ok p) next z e = record { value = p.0; at = p.1; first = refl; second = e }

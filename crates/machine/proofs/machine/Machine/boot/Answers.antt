@@ -6,5 +6,5 @@ returns g c =
     let does = c.in_ok-works.ensures.does in
     record {
       does = does;
-      faithful = begins g.E.Exclusion.meaning g.E.Exclusion.told g.E.Exclusion.answers (record { shaped = g.met.E.Exclusion.shaped; obeys = g.met.E.Exclusion.obeys; says = g.met.E.Exclusion.says }) c.args.image.now.sizes c.args.image.now.signature c.args.image.now.table.now c.args.image.now.text.now c.args.exclusion _ does;
+      faithful = begins g.met.E.Exclusion.shaped g.met.E.Exclusion.obeys g.met.E.Exclusion.says c.args.image.now.signature c.args.image.now.table.now c.args.image.now.text.now does;
     }

@@ -3,5 +3,5 @@ use Rattle.machine.proofs.machine.Machine.enlist.Goals as goal
 
 pub returns : goal.returns
 returns g c =
-    let holds = stays_seen g.E.Exclusion.meaning g.E.Exclusion.told g.E.Exclusion.answers (record { shaped = g.met.E.Exclusion.shaped; obeys = g.met.E.Exclusion.obeys; says = g.met.E.Exclusion.says }) _ _ _ _ _ c.self.view_is c.enlist.ensures.does in
+    let holds = stays_seen g.met.E.Exclusion.shaped g.met.E.Exclusion.obeys g.met.E.Exclusion.says c.self.view_is c.enlist.ensures.does in
     record { does = holds.0; faithful = holds.1 }

@@ -3,5 +3,5 @@ use Rattle.machine.proofs.machine.Machine.hand.Goals as goal
 
 pub returns : goal.returns
 returns g c =
-    let holds = hand_told_so g.E.Exclusion.meaning g.E.Exclusion.told g.E.Exclusion.answers (record { shaped = g.met.E.Exclusion.shaped; obeys = g.met.E.Exclusion.obeys; says = g.met.E.Exclusion.says }) _ _ c.self.view_is c.args.thread _ c.hand.ensures in
+    let holds = hand_told_so g.met.E.Exclusion.shaped g.met.E.Exclusion.obeys g.met.E.Exclusion.says c.self.view_is c.hand.ensures in
     record { defined = holds.0; as_the_ledger_holds = holds.1 }

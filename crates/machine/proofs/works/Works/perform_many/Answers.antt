@@ -1,7 +1,8 @@
 use Rattle.std.proofs.Common.{◌+◌, Option, sym, subst, ◌∙◌}
 use Rattle.model.specs.declared.state.Settling.{Settling}
 use Rattle.model.specs.Calls.{Runs, none}
-use Rattle.machine.proofs.Steps.{one_more, stopped_short, settled_none}
+use Rattle.machine.proofs.Steps.{one_more, stopped_short}
+use Rattle.lives.proofs.Living.{none_if_not_some}
 use Rattle.machine.proofs.works.Works.perform_many.Goals as goal
 
 pub loop-done-init : goal.loop-done-init
@@ -10,11 +11,11 @@ loop-done-init g c = none
 pub returns-then-is_some : goal.returns-then-is_some
 returns-then-is_some g c = record {
   stopped = stopped_short g.E.Exclusion.told g.E.Exclusion.answers c.args.instructions c.loop-done.done c.perform_one-settling.result (sym c.is_some.ensures ∙ c.if-is_some.true) c.loop-done-test.true;
-  runs = one_more g.E.Exclusion.told g.E.Exclusion.answers c.args.cpu c.args.t c.loop-done.done _ _ _ _ c.loop-done.invariant c.perform_one-settling.ensures.performs;
+  runs = one_more c.loop-done.invariant c.perform_one-settling.ensures.performs;
 }
 
 pub loop-done-preserved : goal.loop-done-preserved
 loop-done-preserved g c =
     subst (λ (s : Option Settling). Runs g.E.Exclusion.told g.E.Exclusion.answers c.args.cpu c.args.t (c.loop-done.done + 1) s (c.args.self.now.core, c.args.self.now.exclusion) (c.perform_one-settling.new.self.core, c.perform_one-settling.new.self.exclusion))
-    (settled_none c.perform_one-settling.result (sym c.is_some.ensures ∙ c.if-is_some.false))
-    (one_more g.E.Exclusion.told g.E.Exclusion.answers c.args.cpu c.args.t c.loop-done.done _ _ _ _ c.loop-done.invariant c.perform_one-settling.ensures.performs)
+    (none_if_not_some c.perform_one-settling.result (sym c.is_some.ensures ∙ c.if-is_some.false))
+    (one_more c.loop-done.invariant c.perform_one-settling.ensures.performs)
