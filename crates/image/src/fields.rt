@@ -42,6 +42,7 @@ pub enum Field {
 }
 
 impl Field {
+    // stays: the enum's own number: `field.place()` says what it is for, and is one cast
     /// The place by which a refusal names the field.
     fn place(self) -> usize
         ensures placed { result ≡ field_place self }

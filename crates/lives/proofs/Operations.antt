@@ -237,4 +237,3 @@ nothing_invented sizes past number none = by ((always_kept sizes past).each numb
     by (never n) = (n.not_settled, n.waits_nowhere)
     by (settles s) = absurd (omega (arith, s.brought, none))
     by (waits w) = absurd (omega (arith, w.brought, none))
-

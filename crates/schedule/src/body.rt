@@ -29,6 +29,7 @@ fn read_operation(reader: &mut Reader) -> Result<RawOperation, Fault>
     })
 }
 
+// stays: one match on the letters, a rule of the project
 /// Reads a call. Its first letter says which call it is. On a fault the reader stays at that letter.
 pub fn read_call(reader: &mut Reader) -> Result<Call, Fault>
     ensures defined { ReadsAs call_at reader.old result reader.new }
@@ -69,6 +70,7 @@ pub fn read_call(reader: &mut Reader) -> Result<Call, Fault>
     Ok(call)
 }
 
+// stays: what was read stands beside the fault that ended the reading; a `Result` would lose the one or the other
 /// The calls of a schedule, each with its offset, as far as they can be read, and the fault that ended the reading, if one did.
 #[derive(Drop)]
 pub struct CallsRead {
@@ -95,6 +97,7 @@ pub fn read_calls(heap: Global, mut reader: Reader) -> Result<CallsRead, AllocEr
     Ok(CallsRead { calls, fault: None })
 }
 
+// stays: as with the calls; and calls and fault are listed alike whether there is a job or not
 /// A schedule as far as it can be read: its job, if that is accepted, its calls, each with its offset, and the fault that
 /// ended the reading, if one did.
 #[derive(Drop)]
