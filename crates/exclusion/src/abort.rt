@@ -10,6 +10,7 @@ use super::sections::section_at;
 use image::layout::{Section, sections};
 use std::marker::Model;
 
+// stays: apart from rollback, which has the reason beside it
 /// Abort restart, as Linux has it: looks only at the armed section and goes back to its abort.
 #[derive(Clone, Copy)]
 pub struct AbortRestart {

@@ -12,7 +12,7 @@ use super::parts::{Patience, held_while};
 use image::layout::Section;
 use std::marker::Model;
 
-// stays: apart from masking, which holds rollback alone; one type over both needs a trait of choices and a lower that is told for nothing
+// stays: apart from masking, whose choice goes by the section; one type for both needs a trait of choices with laws, longer than what they share
 /// Grace over a lower exclusion, which it holds: chooses the larger of its own number and the lower choice, and takes the
 /// lower way back.
 #[derive(Drop)]

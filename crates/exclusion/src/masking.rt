@@ -14,6 +14,7 @@ use super::rollback::AddressRollback;
 use image::layout::Section;
 use std::marker::Model;
 
+// stays: apart from grace, which has the reason beside it
 /// Masking: rollback that chooses as patience the instructions that are left in the section.
 #[derive(Clone, Copy)]
 pub struct Masking {

@@ -18,7 +18,7 @@ pub enum Verdict {
     Back(u64),
 }
 
-// stays: sections are numbers, as in `Standing` and `section`, since an exclusion is asked about any; a type of the five would ask more of who asks
+// stays: a section is a number, since any number can be told; a type of the five would ask more of who tells
 /// What an exclusion is told.
 #[derive(Clone, Copy, PartialEq, Eq, Debug)]
 pub enum Notice {
@@ -31,6 +31,7 @@ pub enum Notice {
     Left { cpu: usize },
 }
 
+// stays: `armed` is a number, since an exclusion is asked about any number; a type of the five would ask more of who asks
 /// Where a thread stands that is to be disturbed: its CPU, the number of the armed descriptor, 0 if none is, and its place. A
 /// descriptor is armed from the entry of its routine until its section ends.
 #[derive(Clone, Copy, PartialEq, Eq, Debug)]
@@ -52,11 +53,12 @@ pub trait Exclusion {
     /// What this implementation answers of a thread that is disturbed: CPU, armed descriptor, place, answer.
     ghost answers: { Self → ℕ → ℕ → ℕ → Verdict → Type 0 };
 
+    // stays: a number, here and in `entered`, since an exclusion is asked about any; a type of the five would ask more of who asks
     /// Section d, or zeros if d is not 1 to 5.
     fn section(&self, d: usize) -> Section
         ensures of_the_meaning { result ≡ (meaning self.now).section d };
 
-    // stays: without a body for those that stay as they are; tried, and the proof didn't close, as a body is proved for all at once.
+    // stays: no empty body as a default for what only stays as it is; tried, and the proof didn't close, as a default is proved for all at once
     /// A thread on a CPU has entered section d.
     fn entered(&mut self, cpu: usize, d: usize)
         ensures told_so { told self.old (Entered cpu d) self.new };

@@ -45,7 +45,7 @@ impl Patience {
         self.remaining.get(cpu).copied().unwrap_or(0)
     }
 
-    // stays: tried with `get_mut`, and the proof didn't close: its contract does not say what a write through it leaves behind.
+    // stays: tried with `get_mut`, and the proof didn't close: its contract does not say what a write through it leaves behind
     /// Gives a CPU a patience; one above 7 keeps none.
     #[tactic(auto, using(std::proofs::lemmas::List::set_past))]
     pub(crate) fn set(&mut self, cpu: usize, patience: u8)

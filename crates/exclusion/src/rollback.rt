@@ -11,7 +11,7 @@ use super::sections::{holding, section_at};
 use image::layout::{Section, sections};
 use std::marker::Model;
 
-// stays: apart from abort restart, which has another rule; one type over both needs a type for each rule, and is no plainer.
+// stays: apart from abort restart, which has another rule; one type over both needs a type for each rule, and is no plainer
 /// Address rollback, the oldest way: looks at all sections and goes back to the start of the one that the place is inside, the
 /// first if it is inside several.
 #[derive(Clone, Copy)]

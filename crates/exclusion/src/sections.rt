@@ -20,7 +20,7 @@ pub fn section_at(sections: &[Section; 5], d: usize) -> Section
     }
 }
 
-// stays: tried as one function with `first_inside`, and the proof didn't close.
+// stays: tried as one function with `first_inside`, and the proof didn't close
 /// The first section that a place is inside, if it is inside one.
 #[tactic(auto, using(crate::proofs::Holding::found_first))]
 pub(crate) fn holding(sections: &[Section; 5], place: u64) -> Option<Section>

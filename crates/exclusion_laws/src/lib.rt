@@ -35,6 +35,7 @@ pub fn ask<E: Exclusion>(exclusion: &E, standing: Standing) -> Verdict
     exclusion.disturbed(standing)
 }
 
+// stays: what is told and what is asked are two values; one of both would be taken apart at once, here and in the three below
 /// Tells an exclusion one thing after another, and then asks it.
 pub fn tell_and_ask<E: Exclusion>(
     exclusion: &mut E,

@@ -75,25 +75,25 @@ module _ (table text : List ℕ) (signature : ℕ) (these : List Kind) (i : ℕ)
   no_more_descriptors h = ap (λ ks. all_pass (all_descriptor_checks table text signature ks)) (drop_all i these h)
 
 -- Where sizes and lengths pass, the descriptors decide.
-pub descriptors_decide : (sizes : Sizes) (table text : List ℕ) (signature m n : ℕ) → Ok m ≡ first_failing sizes.counters (size_checks sizes)
+pub descriptors_decide : (sizes : Sizes) (table text : List ℕ) (signature : ℕ) (m : Unit {0}) (n : ℕ) → Ok m ≡ all_pass (size_checks sizes)
     → length table ≡ 160 → Ok n ≡ first_failing (length text) (text_check (length text) ∷ [])
     → checked_image sizes table text signature ≡ first_failing (sections_of table) (all_descriptor_checks table text signature kinds)
 descriptors_decide sizes table text signature m n s t x =
     let rest = all_descriptor_checks table text signature kinds in
-    passed_on (sections_of table) sizes.counters m (size_checks sizes) (table_check (length table) ∷ text_check (length text) ∷ rest) (sym s)
+    passed_on (sections_of table) tt m (size_checks sizes) (table_check (length table) ∷ text_check (length text) ∷ rest) (sym s)
     ∙ ap (λ b. cond b (first_failing (sections_of table) (text_check (length text) ∷ rest)) (Err (table_check (length table)).fault)) (eq-eqb (length table) 160 t)
     ∙ passed_on (sections_of table) (length text) n (text_check (length text) ∷ []) rest (sym x)
 
-pub accepted_image : (sizes : Sizes) (table text : List ℕ) (signature m n : ℕ) (these : List Kind) (u : Unit {0}) (sections : List Section)
-    → Ok m ≡ first_failing sizes.counters (size_checks sizes) → length table ≡ 160 → Ok n ≡ first_failing (length text) (text_check (length text) ∷ [])
+pub accepted_image : (sizes : Sizes) (table text : List ℕ) (signature : ℕ) (m : Unit {0}) (n : ℕ) (these : List Kind) (u : Unit {0}) (sections : List Section)
+    → Ok m ≡ all_pass (size_checks sizes) → length table ≡ 160 → Ok n ≡ first_failing (length text) (text_check (length text) ∷ [])
     → these ≡ kinds → Ok u ≡ all_pass (all_descriptor_checks table text signature these) → sections ≡ sections_of table
     → Ok sections ≡ checked_image sizes table text signature
 accepted_image sizes table text signature m n these u sections s t x k d e =
     ap Ok e ∙ sym (passed_for (sections_of table) tt u (all_descriptor_checks table text signature kinds) (sym (d ∙ ap (λ ks. all_pass (all_descriptor_checks table text signature ks)) k)))
     ∙ sym (descriptors_decide sizes table text signature m n s t x)
 
-pub refused_image : (sizes : Sizes) (table text : List ℕ) (signature m n : ℕ) (these : List Kind) (f : Fault)
-    → Ok m ≡ first_failing sizes.counters (size_checks sizes) → length table ≡ 160 → Ok n ≡ first_failing (length text) (text_check (length text) ∷ [])
+pub refused_image : (sizes : Sizes) (table text : List ℕ) (signature : ℕ) (m : Unit {0}) (n : ℕ) (these : List Kind) (f : Fault)
+    → Ok m ≡ all_pass (size_checks sizes) → length table ≡ 160 → Ok n ≡ first_failing (length text) (text_check (length text) ∷ [])
     → these ≡ kinds → Err f ≡ all_pass (all_descriptor_checks table text signature these)
     → Err f ≡ checked_image sizes table text signature
 refused_image sizes table text signature m n these f s t x k d =

@@ -26,7 +26,7 @@ fn has_number(text: &[u32], address: u64, number: u32) -> bool
     word_at(text, address) == Some(number)
 }
 
-// stays: tried as `all` over the numbered words, and the proof didn't close.
+// stays: tried as `all` over the numbered words, and the proof didn't close
 /// Whether the words lie in the text, one after the other from an address on.
 #[tactic(auto, using(crate::proofs::Standing::next_word, crate::proofs::Standing::wrong_word, crate::proofs::Standing::no_more_words))]
 fn has_words(text: &[u32], start: u64, words: &[Word]) -> bool
@@ -55,14 +55,15 @@ fn has_routine(text: &[u32], kind: Kind, section: Section) -> bool
 }
 
 /// Checks the sizes of a job.
-fn check_sizes(sizes: &Sizes) -> Result<u64, Fault>
-    ensures defined { result ≡ first_failing sizes.now.counters (size_checks sizes.now) }
+fn check_sizes(sizes: &Sizes) -> Result<(), Fault>
+    ensures defined { result ≡ all_pass (size_checks sizes.now) }
 {
     Field::Cpus.accept(sizes.cpus)?;
     Field::Threads.accept(sizes.threads)?;
     Field::Nodes.accept(sizes.nodes)?;
     Field::Packets.accept(sizes.packets)?;
-    Field::Counters.accept(sizes.counters)
+    Field::Counters.accept(sizes.counters)?;
+    Ok(())
 }
 
 /// The number of words, if a text may have so many.

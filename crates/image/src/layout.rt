@@ -64,6 +64,7 @@ impl Section {
 pub fn sections(table: &[u8]) -> [Section; 5]
     ensures defined { result ≡ sections_of table.now }
 {
+    // stays: the kinds by name, since `Kind::all` is a slice, which no array can be made from by `map`
     [Kind::Add, Kind::Push, Kind::Pop, Kind::Put, Kind::Take].map(|kind| Section::of(table, kind))
 }
 

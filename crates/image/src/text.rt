@@ -3,7 +3,7 @@ ghost use Rattle.std.specs.Prelude.{◌≡◌, take};
 
 use super::checks::TEXT_LENGTH;
 
-// stays: room for the longest text with a count beside it, since a machine has no heap.
+// stays: room for the longest text with a count beside it, since a machine has no heap
 /// A text: its first `count` words; the places behind them are 0.
 #[derive(Clone, Copy)]
 pub struct Text {

@@ -77,7 +77,7 @@ impl<E: Exclusion> Works<E> {
     pub fn counter(&self, cpu: u64, counter: u64) -> Result<u64, Fault>
         ensures { result ≡ counter_told self.now.core cpu counter }
     {
-        let cpu = index_below(cpu, self.core.sizes.cpus, Refusal::NoCpu)?;
+        let cpu = self.cpu_index(cpu)?;
         index_below(counter, self.core.sizes.counters, Refusal::NoOperation)?;
         Ok(read(&self.core.cpus[cpu].counters, counter))
     }
@@ -86,7 +86,7 @@ impl<E: Exclusion> Works<E> {
     pub fn hand(&self, thread: u64) -> Result<Option<u64>, Fault>
         ensures { result ≡ hand_told self.now.core thread }
     {
-        let thread = index_below(thread, self.core.sizes.threads, Refusal::NoThread)?;
+        let thread = self.thread_index(thread)?;
         // stays: a rule of the project, that a hand is taken apart wherever its node is used or told
         match self.core.threads[thread].hand {
             Some(node) => Ok(Some(node)),
@@ -98,7 +98,7 @@ impl<E: Exclusion> Works<E> {
     pub fn list_item(&self, cpu: u64, position: u64) -> Result<Option<u64>, Fault>
         ensures { result ≡ list_item_told self.now.core cpu position }
     {
-        let cpu = index_below(cpu, self.core.sizes.cpus, Refusal::NoCpu)?;
+        let cpu = self.cpu_index(cpu)?;
         let head = self.core.cpus[cpu].list;
         Ok(reached(
             |node| node == 0,
@@ -112,7 +112,7 @@ impl<E: Exclusion> Works<E> {
     pub fn ring_item(&self, cpu: u64, position: u64) -> Result<Option<u64>, Fault>
         ensures { result ≡ ring_item_told self.now.core cpu position }
     {
-        let cpu = index_below(cpu, self.core.sizes.cpus, Refusal::NoCpu)?;
+        let cpu = self.cpu_index(cpu)?;
         let ring = self.core.cpus[cpu];
         let packets = self.core.sizes.packets;
         let slot = reached(

@@ -50,7 +50,6 @@ fn new_cpu(first: u64) -> Cpu
 /// The next word of a number where nodes 1 to `nodes` are on one list in ascending order: 0 for the last node, which has no
 /// next, and for a number that is no node.
 fn next_of(node: u64, nodes: u64) -> u64
-    requires { nodes ≤ 255 }
     ensures { result ≡ (if nat_le 1 node && nat_lt node nodes then node + 1 else 0) }
 {
     if 1 <= node && node < nodes {
@@ -62,7 +61,6 @@ fn next_of(node: u64, nodes: u64) -> u64
 
 /// The next words of nodes 1 to `nodes` on one list in ascending order.
 fn linked(nodes: u64) -> [u64; 256]
-    requires { nodes ≤ 255 }
     ensures { result ≡ tabulated 256 (λ node. (if nat_le 1 node && nat_lt node nodes then node + 1 else 0)) }
 {
     array::from_fn(|node| next_of(node as u64, nodes))
@@ -77,7 +75,6 @@ fn first_node(nodes: u64) -> u64
 
 /// A new machine: nodes 1 to N on CPU 0's list in ascending order, and everything else empty.
 fn new_core(sizes: Sizes, image: Image) -> Core
-    requires { sizes.nodes ≤ 255 }
     ensures { result ≡ new_core sizes image }
 {
     let mut cpus = [new_cpu(0); 8];
@@ -124,6 +121,7 @@ fn compare_kinds<E: Exclusion>(exclusion: &E, table: &[u8], these: &[Kind]) -> R
     Ok(())
 }
 
+// stays: a function of its own, since what is compared is all kinds, which the contract says and the caller need not
 /// Compares all sections of an exclusion with the table's.
 fn compare_sections<E: Exclusion>(exclusion: &E, table: &[u8]) -> Result<(), Fault>
     ensures { result ≡ all_pass (section_checks (E.Exclusion.meaning exclusion.now).section table.now kinds) }

@@ -38,6 +38,7 @@ impl<E: Exclusion + Drop> Machine<E> {
     }
 }
 
+// stays: each call passes on to the works, and adds what it promises of every past; with both promises on one body the proof did not close
 impl<E: Exclusion> Machine<E> {
     /// Gives a thread without work an operation to do.
     pub fn enlist(&mut self, thread: u64, operation: RawOperation) -> Result<(), Fault>

@@ -2,14 +2,14 @@
 ghost use Rattle.std.specs.Prelude.{◌≡◌, ℕ, ◌+◌, ◌%◌, ◌<◌, ◌≤◌, slice_index, slice_set};
 ghost use Rattle.model.specs.State.{thread_at, top_frame};
 ghost use Rattle.model.specs.Words.{notice_here, performed};
-ghost use Rattle.image.specs.Layout.{word_at};
+ghost use Rattle.words.specs.Words.{kind_number};
 ghost use Rattle.lives.specs.Apart.{section_of_operation, does_here, word_here};
 
 use exclusion::meaning::Notice;
 use exclusion::sections::section_at;
 use image::layout::{Section, word_at};
 use model::state::{Answer, Core, Cpu, Frame, Image, Operation, Settling, Thread};
-use words::Word;
+use words::{Kind, Word};
 
 /// A word of a list by its index, and 0 past the end.
 pub fn read(words: &[u64], i: u64) -> u64
@@ -18,6 +18,7 @@ pub fn read(words: &[u64], i: u64) -> u64
     words.get(i as usize).copied().unwrap_or(0)
 }
 
+// stays: tried with `get_mut`, and the proof didn't close: nothing says what a write through it leaves in the list
 /// Writes a word of a list, and nothing past the end.
 fn write(words: &mut [u64], i: u64, word: u64)
     ensures { words.new ≡ slice_set words.old i word }
@@ -102,6 +103,7 @@ pub fn perform(
             }
             None
         }
+        // stays: a rule of the project, that a hand is taken apart wherever its node is used or told
         (Some(Word::PushNode), _) => match thread.hand {
             Some(node) => {
                 cpu.list = node;
@@ -173,12 +175,15 @@ pub struct Ran {
 }
 
 /// What the exclusion is told after a word.
-fn notice_of(cpu: usize, d: usize, answer: Option<Answer>, word: Option<Word>) -> Option<Notice>
-    ensures { result ≡ notice_here cpu d answer word }
+fn notice_of(cpu: usize, kind: Kind, answer: Option<Answer>, word: Option<Word>) -> Option<Notice>
+    ensures { result ≡ notice_here cpu (kind_number kind) answer word }
 {
     match (word, answer) {
         (None | Some(Word::Enter | Word::Restart), _) => None,
-        (Some(Word::ReadCpu), _) => Some(Notice::Entered { cpu, d }),
+        (Some(Word::ReadCpu), _) => Some(Notice::Entered {
+            cpu,
+            d: kind.number(),
+        }),
         (Some(_), None) => Some(Notice::Stepped { cpu }),
         (Some(_), Some(_)) => Some(Notice::Left { cpu }),
     }
@@ -203,7 +208,7 @@ pub fn step(core: &mut Core, cpu: usize, t: usize) -> Ran
         core.sizes.packets,
     );
     Ran {
-        notice: notice_of(cpu, operation.kind().number(), answer, word),
+        notice: notice_of(cpu, operation.kind(), answer, word),
         settling: answer.map(|answer| Settling {
             thread: t,
             operation,

@@ -2,7 +2,8 @@
 ghost use Rattle.std.specs.Prelude.{◌≡◌, ℕ, ◌<◌, ◌≤◌, Ok, Err, MatchResult};
 ghost use Rattle.calls.specs.declared.Call.TheVariants.{Advance, Enlist, Idle, Run, Signal, Switch};
 ghost use Rattle.lives.specs.Apart.{given_thread, with_frame};
-ghost use Rattle.machine.specs.Promises.{CanBegin, CanChange, Changes, Interrupts, Working, accept_answer, advance_answer, begin_checks, idle_checks, run_answer, switch_checks};
+ghost use Rattle.faults.specs.declared.Refusal.TheVariants.{NoCpu, NoThread};
+ghost use Rattle.machine.specs.Promises.{CanBegin, CanChange, Changes, IndexBelow, Interrupts, Working, accept_answer, advance_answer, begin_checks, idle_checks, run_answer, switch_checks};
 ghost use Rattle.machine.specs.Sound.{Sound};
 ghost use Rattle.model.specs.Calls.{Stopped, Boots, Performs, Runs, Step, ToldIf};
 ghost use Rattle.model.specs.State.{thread_at};
@@ -17,7 +18,7 @@ use faults::{Fault, Refusal};
 use image::checks::JobImage;
 use model::state::{Core, Frame, Operation, Settling};
 
-// stays: indices are numbers with their bounds asked for; types for them would be turned back at each use, as the state and a settling hold numbers
+// stays: a CPU and its thread are two numbers with their bounds asked for; a type for the pair would be taken apart at each use
 /// The state of a machine and its exclusion, which it tells and asks as its rules say. It keeps itself sound: what it uses as
 /// an index is within its arrays.
 #[derive(Drop)]
@@ -48,11 +49,25 @@ impl<E: Exclusion + Drop> Works<E> {
 }
 
 impl<E: Exclusion> Works<E> {
+    /// The index of a CPU that the machine has; or the refusal.
+    pub fn cpu_index(&self, cpu: u64) -> Result<usize, Fault>
+        ensures { IndexBelow cpu self.now.core.sizes.cpus NoCpu result }
+    {
+        index_below(cpu, self.core.sizes.cpus, Refusal::NoCpu)
+    }
+
+    /// The index of a thread that the machine has; or the refusal.
+    pub fn thread_index(&self, thread: u64) -> Result<usize, Fault>
+        ensures { IndexBelow thread self.now.core.sizes.threads NoThread result }
+    {
+        index_below(thread, self.core.sizes.threads, Refusal::NoThread)
+    }
+
     /// The thread that a CPU has, with an operation to do; or the refusal.
     fn working(&self, cpu: u64) -> Result<usize, Fault>
         ensures checked { Working self.now.core cpu result }
     {
-        let cpu = index_below(cpu, self.core.sizes.cpus, Refusal::NoCpu)?;
+        let cpu = self.cpu_index(cpu)?;
         let Some(t) = self.core.cpus[cpu].current else {
             return Err(Fault::at(Refusal::Idle, 0));
         };
@@ -74,7 +89,7 @@ impl<E: Exclusion> Works<E> {
         requires { room ≤ 8 }
         ensures checked { CanBegin (begin_checks self.now.core thread raw room full) self.now.core thread raw result }
     {
-        let t = index_below(thread, self.core.sizes.threads, Refusal::NoThread)?;
+        let t = self.thread_index(thread)?;
         let Some(operation) = operation_of(self.core.sizes, raw) else {
             return Err(Fault::at(Refusal::NoOperation, 0));
         };
@@ -88,19 +103,19 @@ impl<E: Exclusion> Works<E> {
     fn can_switch(&self, cpu: u64, thread: u64) -> Result<(), Fault>
         ensures checked { CanChange (switch_checks self.now.core cpu thread) self.now.core cpu result }
     {
-        index_below(cpu, self.core.sizes.cpus, Refusal::NoCpu)?;
-        index_below(thread, self.core.sizes.threads, Refusal::NoThread)?;
-        match cpu_of(&self.core.cpus, thread as usize) {
-            Some(_) => Err(Fault::at(Refusal::Current, 0)),
-            None => Ok(()),
+        self.cpu_index(cpu)?;
+        self.thread_index(thread)?;
+        if cpu_of(&self.core.cpus, thread as usize).is_some() {
+            return Err(Fault::at(Refusal::Current, 0));
         }
+        Ok(())
     }
 
     /// Whether idle may be tried; or the refusal.
     fn can_idle(&self, cpu: u64) -> Result<(), Fault>
         ensures checked { CanChange (idle_checks self.now.core cpu) self.now.core cpu result }
     {
-        let cpu = index_below(cpu, self.core.sizes.cpus, Refusal::NoCpu)?;
+        let cpu = self.cpu_index(cpu)?;
         if self.core.cpus[cpu].current.is_none() {
             return Err(Fault::at(Refusal::Idle, 0));
         }

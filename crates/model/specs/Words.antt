@@ -16,7 +16,7 @@ use Rattle.model.specs.declared.state.Answer.TheVariants.{Done, Got, Empty, Full
 use Rattle.model.specs.declared.state.Settling.{Settling}
 use Rattle.model.specs.State.{thread_q, thread_a, thread_b, thread_w, thread_hand, cpu_counters, cpu_list, cpu_head, cpu_tail, cpu_slots, core_next, thread_at, cpu_at, put_thread, put_cpu, top_frame, with_top, dropped, descriptor_of_operation, section_of_operation, entry_of}
 
--- The word that a number of the text stands for.
+-- The word that a number of the text stands for, if there is a number and it stands for one.
 abbrev pub decoded : Option ℕ → Option Word
 decoded None = None
 decoded (Some n) = word_of n

@@ -37,7 +37,7 @@ impl Operation {
     }
 }
 
-// stays: `armed` is the number that an exclusion is asked with, 0 for none; an option of a kind would be turned into it at each question
+// stays: `armed` is a number, 0 for none, as in the rules and in what an exclusion is asked; an option of a kind would be turned into it
 /// A frame of a thread's stack: an operation, the place of its next instruction, and the number of the descriptor that is
 /// armed, 0 if none is. The routine's entry arms its descriptor, which marks the frame as being in that routine's section; it
 /// is disarmed when the thread is disturbed and not sent back to the section's start.
@@ -58,7 +58,7 @@ pub const NO_FRAME: Frame = Frame {
     armed: 0,
 };
 
-// stays: eight places with the depth beside, as a machine has no heap; a thread is copied, and a vector of fixed capacity is no `Copy`
+// stays: eight places with the depth beside, as a machine has no heap; a thread is copied, and a vector of fixed capacity is not `Copy`
 /// A thread: its registers, its stack, of which the first `depth` frames count and the last of them is the top, and its
 /// hand, which holds one node or none. A node is a free buffer, known by its number from 1 on.
 #[derive(Clone, Copy)]
@@ -73,7 +73,9 @@ pub struct Thread {
 }
 
 impl Thread {
-    /// The top frame of the stack; one that stands nowhere where the depth is past the end.
+    // stays: total, as the definition of a top frame is and as an instruction takes it; an option would be taken apart with this default
+    /// The top frame of the stack. A stack with no frame has its first place for it, and one whose depth is past the end a frame
+    /// that stands nowhere.
     pub fn top(&self) -> Frame
         ensures defined { result ≡ top_frame self.now }
     {
@@ -83,7 +85,8 @@ impl Thread {
             .unwrap_or(NO_FRAME)
     }
 
-    /// Puts another frame in the place of the top one.
+    // stays: tried with `get_mut`, and the proof didn't close: nothing says what a write through it leaves in the array
+    /// Puts another frame in the place of the top one, unless the depth is past the end.
     pub fn set_top(&mut self, frame: Frame)
         ensures defined { self.new ≡ with_top self.old frame }
     {
@@ -112,6 +115,7 @@ impl Thread {
 }
 
 // stays: `list` is a word of memory, 0 for no node, as registers and next words are; an option would be turned into one at each copy
+// stays: arrays, as a machine has stated bounds and no heap
 /// A CPU: its current thread, its counters, the head of its list of nodes (0 for none), and its ring of packets by head, tail and
 /// slots. A packet is the amount that was put.
 #[derive(Clone, Copy)]
