@@ -27,24 +27,15 @@ pub record Split {X Y : Type 0} (r : Read X) (next : X → ℕ → Read Y) (z : 
   pub first : r ≡ Ok (value, at)
   pub second : next value at ≡ Ok z
 
-pub err_no_ok : {X P : Type 0} {f : Fault} {x : X} → ◌≡◌ {A = Result X Fault} (Err f) (Ok x) → P
-err_no_ok e = cc
-
 pub split : {X Y : Type 0} (r : Read X) (next : X → ℕ → Read Y) (z : Y × ℕ) → and_then r next ≡ Ok z → Split r next z
 split (Ok p) next z e = record { value = p.0; at = p.1; first = refl; second = e }
-split (Err f) next z e = err_no_ok e
+split (Err f) next z e = cc
 
 pub same_value : {X : Type 0} {x y : X} {m n : ℕ} → ◌≡◌ {A = Read X} (Ok (x, m)) (Ok (y, n)) → x ≡ y
-same_value e = ap (λ p. p.0) (same e)
-  where
-    same : {A : Type 0} {a b : A} → ◌≡◌ {A = Result A Fault} (Ok a) (Ok b) → a ≡ b
-    same p = cc
+same_value {X} {x} {y} {m} {n} e = let same : ◌≡◌ {A = X × ℕ} (x, m) (y, n) = cc in ap (λ p. p.0) same
 
 pub same_place : {X : Type 0} {x y : X} {m n : ℕ} → ◌≡◌ {A = Read X} (Ok (x, m)) (Ok (y, n)) → m ≡ n
-same_place e = ap (λ p. p.1) (same e)
-  where
-    same : {A : Type 0} {a b : A} → ◌≡◌ {A = Result A Fault} (Ok a) (Ok b) → a ≡ b
-    same p = cc
+same_place {X} {x} {y} {m} {n} e = let same : ◌≡◌ {A = X × ℕ} (x, m) (y, n) = cc in ap (λ p. p.1) same
 
 -- A field within its limits.
 accepted : (p : ℕ × ℕ) (at : ℕ) (check : Check) → check.passes ≡ true → refused_by_boot at (first_failing p (check ∷ [])) ≡ Ok p
@@ -53,12 +44,9 @@ accepted p at check e = ap (λ t. refused_by_boot at (cond t (Ok p) (Err check.f
 passed : (p q : ℕ × ℕ) (at : ℕ) (check : Check) → refused_by_boot at (first_failing p (check ∷ [])) ≡ Ok q → (check.passes ≡ true) × (p ≡ q)
 passed p q at check e = go check.passes refl e
   where
-    same : ◌≡◌ {A = Result (ℕ × ℕ) Fault} (Ok p) (Ok q) → p ≡ q
-    same h = cc
-
     go : (t : Bool) → check.passes ≡ t → refused_by_boot at (cond t (Ok p) (Err check.fault)) ≡ Ok q → (check.passes ≡ true) × (p ≡ q)
-    go true b h = (b, same h)
-    go false b h = err_no_ok h
+    go true b h = (b, cc)
+    go false b h = cc
 
 -- What is read where it was written, and what follows there.
 pub record ReadsThere {X : Type 0} (r : Read X) (x : X) (bytes : List ℕ) (at k : ℕ) (rest : List ℕ) : Type 0 where
@@ -125,8 +113,5 @@ module _ (bytes : List ℕ) (at n next : ℕ) (ok : Bytes bytes) where
 pub stands_then : {bytes : List ℕ} {at mid next : ℕ} {these those : List ℕ} → Stands bytes at these mid → Stands bytes mid those next → Stands bytes at (these ++ those) next
 stands_then {bytes} {at} {mid} {next} {these} {those} s t = record {
   there = s.there ∙ ap (λ x. these ++ x) t.there ∙ sym (append_assoc these those (drop next bytes));
-  behind = t.behind ∙ ap (λ k. k + length those) s.behind ∙ sum;
+  behind = t.behind ∙ ap (λ k. k + length those) s.behind ∙ omega (arith, length-append these those);
 }
-  where
-    sum : at + length these + length those ≡ at + length (these ++ those)
-    sum = omega (arith, length-append these those)

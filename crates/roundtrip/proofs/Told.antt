@@ -18,7 +18,7 @@ use Rattle.image.specs.declared.text.Text.{Text}
 use Rattle.schedule.specs.Format.{written_numbers, exclusion_number, words_of, padded, written_job, written_operation, written_call, Within, TellableJob, TellableOperation, Tellable}
 use Rattle.schedule.specs.Reading.{Read, and_then, field_at, sizes_at, table_at, words_at, padded_words_at, word_count_at, text_at, exclusion_of, parts_at, operation_at, call_by, call_at}
 use Rattle.roundtrip.specs.Laws.{HeaderWasWritten, CallWasWritten}
-use Rattle.roundtrip.proofs.Parsing.{Stands, split, err_no_ok, same_value, same_place, number_stood, field_stood, count_stood, stands_then}
+use Rattle.roundtrip.proofs.Parsing.{Stands, split, same_value, same_place, number_stood, field_stood, count_stood, stands_then}
 
 -- Words.
 pub record WordsStood (bytes : List ℕ) (k at : ℕ) (words : List ℕ) (next : ℕ) : Type 0 where
@@ -45,7 +45,7 @@ table_stood : (bytes : List ℕ) (at : ℕ) (table : List ℕ) (next : ℕ) → 
 table_stood bytes at table next e = go (ltb (length bytes) (at + 160)) refl e
   where
     go : (t : Bool) → ltb (length bytes) (at + 160) ≡ t → cond {A = Read (List ℕ)} t (Err (fault_at EndsInside (length bytes))) (Ok (take 160 (drop at bytes), at + 160)) ≡ Ok (table, next) → (length table ≡ 160) × Stands bytes at table next
-    go true b h = err_no_ok h
+    go true b h = cc
     go false b h =
         let room : at + 160 ≤ length bytes = ltb-false (length bytes) (at + 160) b in
         let left = length-drop at bytes in
@@ -187,17 +187,17 @@ header_was_written bytes job next ok e = long (ltb 32768 (length bytes)) refl e
         let parts = parts_stood bytes 1 job next ok h in
         let whole = stands_then (letter_stood bytes 0 74 some (eqb-true (get_or bytes 0 0) 74 b)) parts.stand in
         (parts.tellable, short, whole.there, whole.behind ∙ omega arith)
-    letter short some false b h = err_no_ok h
+    letter short some false b h = cc
 
     empty : length bytes ≤ 32768 → (t : Bool) → ltb 0 (length bytes) ≡ t
         → cond t (cond (eqb (get_or bytes 0 0) 74) (parts_at bytes 1) (Err (fault_at UnknownLetter 0))) (Err (fault_at EndsInside 0)) ≡ Ok (job, next) → Whole
     empty short true b h = letter short (ltb-true 0 (length bytes) b) (eqb (get_or bytes 0 0) 74) refl h
-    empty short false b h = err_no_ok h
+    empty short false b h = cc
 
     long : (t : Bool) → ltb 32768 (length bytes) ≡ t
         → cond t (Err (fault_at EndsInside 32768)) (cond (ltb 0 (length bytes)) (cond (eqb (get_or bytes 0 0) 74) (parts_at bytes 1) (Err (fault_at UnknownLetter 0))) (Err (fault_at EndsInside 0))) ≡ Ok (job, next)
         → Whole
-    long true b h = err_no_ok h
+    long true b h = cc
     long false b h = empty (ltb-false 32768 (length bytes) b) (ltb 0 (length bytes)) refl h
 
 -- Operands.
@@ -271,11 +271,11 @@ module _ (bytes : List ℕ) (first : ℕ) (call : Call) (next : ℕ) (ok : Bytes
           (by_letter 115 _ _ h (λ p l. of_two 115 Switch (λ m n s t. (s, t)) (λ m n. refl) l p)
           (by_letter 105 _ _ h (λ p l. of_one 105 Idle (λ n s. s) (λ n. refl) l p)
           (by_letter 103 _ _ h (λ p l. of_operation 103 Signal (λ n o s t. (s, t)) (λ n o. refl) l p)
-          (λ p. err_no_ok p)))))) q
+          (λ p. cc)))))) q
 
       go : (t : Bool) → ltb first (length bytes) ≡ t → cond t (call_by (get_or bytes first 0) bytes first (first + 1)) (Err (fault_at EndsInside first)) ≡ Ok (call, next) → ResultStood
       go true b q = letters (ltb-true first (length bytes) b) q
-      go false b q = err_no_ok q
+      go false b q = cc
 
 pub call_was_written : CallWasWritten
 call_was_written bytes first call next ok e = let s = call_stood bytes first call next ok e in (s.tellable, s.stand.there, s.stand.behind)
