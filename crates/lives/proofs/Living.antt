@@ -26,6 +26,7 @@ use Rattle.model.specs.Ledger.{Ledger, updated, brings}
 use Rattle.model.specs.Ledger.{with_current as ledger-current}
 use Rattle.model.specs.Life.{Event, ledger}
 use Rattle.model.specs.Claims.{is_thread, HasMeaning, Mark, instruction, granted, held, about, trace, SettlingsAgree, instructions_of}
+use Rattle.model.proofs.Calling.{by_current, by_operation}
 use Rattle.lives.proofs.Nodes.{updated_else}
 use Rattle.lives.proofs.Midway.{Valid}
 use Rattle.lives.proofs.Standing.{RestartPoint, Standing, idle, resting, restarting, midway, Invariant}
@@ -134,16 +135,11 @@ module _ {E : Type 0} (meaning : E → Meaning) (told : E → Notice → E → T
       settlings = (refl, lived_so.settlings);
     }
 
-    by_operation : (x : Call) (r : Answered) (k : Core × E) (P : Operation → Type 0) (raw : RawOperation) (o : Option Operation) → operation_of sizes raw ≡ o → ByOperation told answers o P
-        → ((operation : Operation) → operation_of sizes raw ≡ Some operation → P operation → After x r k) → After x r k
-    by_operation x r k P raw None is d then = absurd d
-    by_operation x r k P raw (Some operation) is d then = then operation is d
-
     enlist_well : (t : ℕ) (raw : RawOperation) (r : Answered) (k : Core × E) → Step told answers m (call.Enlist t raw) r k → After (call.Enlist t raw) r k
     enlist_well t raw r k step =
         checked (call.Enlist t raw) (has_thread core t ∷ is_operation core raw ∷ has_no_frame core t ∷ []) r k _ (refl, (refl, (refl, tt)))
         (λ passed d.
-        by_operation (call.Enlist t raw) r k (λ operation. (r ≡ accepted) × (k.0 ≡ with_frame t operation core) × (k.1 ≡ m.1)) raw (operation_of sizes raw) refl d
+        by_operation told answers (operation_of sizes raw) (λ operation. (r ≡ accepted) × (k.0 ≡ with_frame t operation core) × (k.1 ≡ m.1)) (After (call.Enlist t raw) r k) d
         (λ operation is p.
         subst (λ a. After (call.Enlist t raw) a k) (sym p.0)
         (subst (After (call.Enlist t raw) accepted) (sym (ap₂ (λ a b. (a, b)) p.1 p.2))
@@ -159,11 +155,6 @@ module _ {E : Type 0} (meaning : E → Meaning) (told : E → Notice → E → T
         let settled = ran_well meaning told answers has l marks m c t lived_so.well on some (Some s) k p in
         record { same_sizes = ap (λ (x : Core). x.sizes) p.0; well = settled.later; settlings = (sym settled.settling, lived_so.settlings) }
 
-    by_current : (x : Call) (r : Answered) (k : Core × E) (P : ℕ → Type 0) (c : ℕ) (o : Option ℕ) → (cpu_at core c).current ≡ o → ByCurrent told answers o P
-        → ((t : ℕ) → (cpu_at core c).current ≡ Some t → P t → After x r k) → After x r k
-    by_current x r k P c None is d then = absurd d
-    by_current x r k P c (Some t) is d then = then t is d
-
     works : (c t : ℕ) → (cpu_at core c).current ≡ Some t → current_works core (cpu_at core c).current ≡ true → 0 < (thread_at core t).depth
     works c t is passes = ltb-true 0 (thread_at core t).depth (sym (ap (current_works core) is) ∙ passes)
 
@@ -171,7 +162,7 @@ module _ {E : Type 0} (meaning : E → Meaning) (told : E → Notice → E → T
     run_well c r k step =
         checked (call.Run c) (has_cpu core c ∷ has_current core c ∷ has_work core c ∷ []) r k _ (refl, (refl, (refl, tt)))
         (λ passed d.
-        by_current (call.Run c) r k (λ t. (settling : Option Settling) × (r ≡ ran settling) × Performs told answers m c t settling k) c (cpu_at core c).current refl d
+        by_current told answers (cpu_at core c).current (λ t. (settling : Option Settling) × (r ≡ ran settling) × Performs told answers m c t settling k) (After (call.Run c) r k) d
         (λ t is p.
         subst (λ a. After (call.Run c) a k) (sym p.1) (ran_event c t p.0 k (sym (inv.current c) ∙ is) (works c t is passed.1.1.0) p.2)))
         _ refl step
@@ -194,8 +185,8 @@ module _ {E : Type 0} (meaning : E → Meaning) (told : E → Notice → E → T
     advance_well c n r k step =
         checked (call.Advance c n) (has_cpu core c ∷ has_current core c ∷ has_work core c ∷ []) r k _ (refl, (refl, (refl, tt)))
         (λ passed d.
-        by_current (call.Advance c n) r k
-        (λ t. (count : ℕ) × (settling : Option Settling) × (r ≡ advanced count settling) × Stopped told answers n count settling × Runs told answers c t count settling m k) c (cpu_at core c).current refl d
+        by_current told answers (cpu_at core c).current
+        (λ t. (count : ℕ) × (settling : Option Settling) × (r ≡ advanced count settling) × Stopped told answers n count settling × Runs told answers c t count settling m k) (After (call.Advance c n) r k) d
         (λ t is p.
         subst (λ a. After (call.Advance c n) a k) (sym p.2) (advanced_event c n t p.0 p.1 k (sym (inv.current c) ∙ is) (works c t is passed.1.1.0) p.4)))
         _ refl step
@@ -315,7 +306,7 @@ module _ {E : Type 0} (meaning : E → Meaning) (told : E → Notice → E → T
     signal_well t raw r k step =
         checked (call.Signal t raw) (has_thread core t ∷ is_operation core raw ∷ has_room core t ∷ []) r k _ (refl, (refl, (refl, tt)))
         (λ passed d.
-        by_operation (call.Signal t raw) r k (λ operation. Signals told answers m t operation (cpu_of core t) r k) raw (operation_of sizes raw) refl d
+        by_operation told answers (operation_of sizes raw) (λ operation. Signals told answers m t operation (cpu_of core t) r k) (After (call.Signal t raw) r k) d
         (λ operation is p. signal_by t raw operation is (ltb-true t sizes.threads passed.0) (ltb-true (thread_at core t).depth 8 passed.1.1.0) r k (cpu_of core t) refl p))
         _ refl step
 
