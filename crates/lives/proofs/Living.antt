@@ -1,6 +1,6 @@
 -- Every call keeps what holds of a machine with a past.
 use Rattle.std.proofs.Common.{◌≡◌, ℕ, zero, suc, ◌<◌, Bool, true, false, cond, eqb, List, [], ◌∷◌, ◌++◌, reverse, length, take, replicate, is_some, Some, None, Ok, Err, Option, Result, sym, refl, ap, ap₂, ◌∙◌, subst, ⊎_elim, arith, get_or-set_other, get_or-set_same}
-use Rattle.std.proofs.lemmas.Bool.{cases_eq, eq-eqb, ne_eqb, eqb-true, ltb-true, not-true}
+use Rattle.std.proofs.lemmas.Bool.{cond_both, cases_eq, eq-eqb, ne_eqb, eqb-true, ltb-true, not-true}
 use Rattle.std.proofs.lemmas.Option.{same_Some}
 use Rattle.std.specs.List.{AllByRecursion}
 use Rattle.faults.specs.declared.Fault.{Fault}
@@ -82,11 +82,7 @@ module _ {E : Type 0} (meaning : E → Meaning) (told : E → Notice → E → T
 
     -- Refused, but not held: nothing has happened.
     unmarked : (x : Call) (fault : Fault) → NotHeld fault → (c : ℕ) → marks c ≡ trace sizes (event x (refused fault) ∷ before) c
-    unmarked x fault other c = sym (ap (λ b. cond (about l c x) (cond b (held x ∷ []) []) [] ++ marks c) other ∙ go (about l c x))
-      where
-        go : (b : Bool) → cond b [] [] ++ marks c ≡ marks c
-        go true = refl
-        go false = refl
+    unmarked x fault other c = sym (ap (λ b. cond (about l c x) (cond b (held x ∷ []) []) [] ++ marks c) other ∙ cond_both (about l c x) [] [] (λ new. new ++ marks c ≡ marks c) (λ e. refl) (λ e. refl))
 
     refused_well : (x : Call) (fault : Fault) → NotHeld fault → After x (refused fault) m
     refused_well x fault other = record { same_sizes = refl; well = well_marks meaning l marks _ m (unmarked x fault other) lived_so.well; settlings = (refl, lived_so.settlings) }

@@ -1,6 +1,6 @@
 -- The ledger alone: whatever its past, an operation that was brought has settled once or waits once.
 use Rattle.std.proofs.Common.{◌≡◌, ℕ, suc, ◌+◌, ◌<◌, Bool, true, false, cond, leb, ◌⊎◌, List, [], ◌∷◌, ◌++◌, length, Some, None, Option, sym, refl, ap, ◌∙◌, subst, inl, inr, ⊎_elim, arith}
-use Rattle.std.proofs.lemmas.Bool.{eq-eqb, ne_eqb, cases_eq}
+use Rattle.std.proofs.lemmas.Bool.{cond_both, eq-eqb, ne_eqb, cases_eq}
 use Rattle.image.specs.declared.fields.Sizes.{Sizes}
 use Rattle.calls.specs.declared.Call.{Call}
 use Rattle.calls.specs.declared.Call.TheVariants as call
@@ -166,11 +166,7 @@ module _ (packets : ℕ) (l : Ledger) (thread cpu : ℕ) where
   whole_leaves (Add counter amount) = refl
   whole_leaves Push = push_leaves (l.hands thread)
   whole_leaves Pop = pop_leaves (l.hands thread) (l.lists cpu)
-  whole_leaves (Put amount) = by (leb packets (length (l.rings cpu))) _ _ refl refl
-    where
-      by : (b : Bool) (x y : Outcome) → x.ledger.waiting ≡ l.waiting → y.ledger.waiting ≡ l.waiting → (cond b x y).ledger.waiting ≡ l.waiting
-      by true x y p q = p
-      by false x y p q = q
+  whole_leaves (Put amount) = cond_both (leb packets (length (l.rings cpu))) _ _ (λ (o : Outcome). o.ledger.waiting ≡ l.waiting) (λ e. refl) (λ e. refl)
   whole_leaves Take = take_leaves (l.rings cpu)
 
 -- What each call does to the ledger keeps every number accounted for.
