@@ -11,7 +11,7 @@ use Rattle.model.specs.declared.state.Core.{Core}
 use Rattle.model.specs.State.{no_cpu, no_thread, cpu_current, put_thread, put_cpu, thread_at, cpu_at, top_frame, pushed}
 use Rattle.model.specs.Ledger.{Ledger, Waiting, updated, with_waiting}
 use Rattle.model.specs.Ledger.{with_current as ledger-current}
-use Rattle.lives.proofs.Nodes.{updated_here, updated_else}
+use Rattle.lives.proofs.Nodes.{here_or_else, updated_here, updated_else}
 use Rattle.lives.proofs.Stacks.{Whole}
 use Rattle.lives.proofs.Midway.{Holds, Valid}
 use Rattle.lives.proofs.Standing.{RestartPoint, at_entry, Midway, Standing, idle, resting, restarting, midway, ThreadStands, Invariant}
@@ -109,24 +109,19 @@ module _ (l : Ledger) (m : Meaning) (core : Core) (c : ℕ) (o : Option ℕ) (in
     eight_cpus = length-set core.cpus c cpu ∙ inv.eight_cpus;
     sixteen_threads = inv.sixteen_threads;
     next_words = inv.next_words;
-    holds = λ other below.
-        ⊎_elim
-        (λ (same : other ≡ c).
-        subst (λ x. Holds core.sizes (l.counters x) (l.lists x) (l.rings x) (cpu_at later x) core.next) (sym same)
-        (subst (λ y. Holds core.sizes (l.counters c) (l.lists c) (l.rings c) y core.next) (sym cpu_here) holds_here))
-        (λ (differs : other ≡ c → ⊥). subst (λ y. Holds core.sizes (l.counters other) (l.lists other) (l.rings other) y core.next) (sym (cpu_else other differs)) (inv.holds other below)) (cases_eq other c);
+    holds = here_or_else (λ x. x < core.sizes.cpus → Holds core.sizes (l.counters x) (l.lists x) (l.rings x) (cpu_at later x) core.next) c
+        (λ below. subst (λ y. Holds core.sizes (l.counters c) (l.lists c) (l.rings c) y core.next) (sym cpu_here) holds_here)
+        (λ x differs below. subst (λ y. Holds core.sizes (l.counters x) (l.lists x) (l.rings x) y core.next) (sym (cpu_else x differs)) (inv.holds x below));
     hands = inv.hands;
-    current = λ other.
-        ⊎_elim (λ (same : other ≡ c). ap (λ x. (cpu_at later x).current) same ∙ ap (λ (y : Cpu). y.current) cpu_here ∙ sym now_here ∙ ap k.current (sym same))
-        (λ (differs : other ≡ c → ⊥). ap (λ (y : Cpu). y.current) (cpu_else other differs) ∙ inv.current other ∙ sym (now_else other differs)) (cases_eq other c);
+    current = here_or_else (λ x. (cpu_at later x).current ≡ k.current x) c (ap (λ (y : Cpu). y.current) cpu_here ∙ sym now_here)
+        (λ x differs. ap (λ (y : Cpu). y.current) (cpu_else x differs) ∙ inv.current x ∙ sym (now_else x differs));
     current_exists = λ other t on.
         ⊎_elim (λ (p : (other ≡ c) × (o ≡ Some t)). (subst (λ x. x < core.sizes.cpus) (sym p.0) exists, (free t p.1).0)) (λ (p : (other ≡ c → ⊥) × (l.current other ≡ Some t)). inv.current_exists other t p.1) (placed other t on);
     on_one_cpu = λ one other t on also. one_place one other t (placed one t on) (placed other t also);
     threads = inv.threads;
     nowhere_else = inv.nowhere_else;
     nodes = inv.nodes;
-    standing = λ other below.
-        ⊎_elim (λ (same : other ≡ c). subst (λ x. Standing later (m.patience x) x) (sym same) (standing_here o refl)) (λ (differs : other ≡ c → ⊥). standing_else other differs (inv.standing other below)) (cases_eq other c);
+    standing = here_or_else (λ x. x < core.sizes.cpus → Standing later (m.patience x) x) c (λ below. standing_here o refl) (λ x differs below. standing_else x differs (inv.standing x below));
     off_cpu = λ s below off. off_cpu s below off (l.current c) refl;
   }
 
@@ -190,27 +185,22 @@ module _ (l : Ledger) (m : Meaning) (core : Core) (t number : ℕ) (operation : 
     sixteen_threads = length-set core.threads t thread ∙ inv.sixteen_threads;
     next_words = inv.next_words;
     holds = inv.holds;
-    hands = λ s below.
-        ⊎_elim (λ (same : s ≡ t). ap (λ x. (thread_at after x).hand) same ∙ ap (λ (x : Thread). x.hand) thread_here ∙ inv.hands t exists ∙ ap l.hands (sym same))
-        (λ (differs : s ≡ t → ⊥). ap (λ (x : Thread). x.hand) (thread_else s differs) ∙ inv.hands s below) (cases_eq s t);
+    hands = here_or_else (λ s. s < core.sizes.threads → (thread_at after s).hand ≡ l.hands s) t (λ below. ap (λ (x : Thread). x.hand) thread_here ∙ inv.hands t exists)
+        (λ s differs below. ap (λ (x : Thread). x.hand) (thread_else s differs) ∙ inv.hands s below);
     current = inv.current;
     current_exists = inv.current_exists;
     on_one_cpu = inv.on_one_cpu;
-    threads = λ s below.
-        ⊎_elim
-        (λ (same : s ≡ t).
-        subst (λ x. ThreadStands core.sizes core.image (more.waiting x) (thread_at after x)) (sym same)
-        (subst (λ ws. ThreadStands core.sizes core.image ws (thread_at after t)) (sym (updated_here l.waiting t (top ∷ l.waiting t)))
-        (subst (ThreadStands core.sizes core.image (top ∷ l.waiting t)) (sym thread_here) stands)))
-        (λ (differs : s ≡ t → ⊥).
+    threads = here_or_else (λ s. s < core.sizes.threads → ThreadStands core.sizes core.image (more.waiting s) (thread_at after s)) t
+        (λ below.
+        subst (λ ws. ThreadStands core.sizes core.image ws (thread_at after t)) (sym (updated_here l.waiting t (top ∷ l.waiting t)))
+        (subst (ThreadStands core.sizes core.image (top ∷ l.waiting t)) (sym thread_here) stands))
+        (λ s differs below.
         subst (λ ws. ThreadStands core.sizes core.image ws (thread_at after s)) (sym (updated_else l.waiting t (top ∷ l.waiting t) s differs))
-        (subst (ThreadStands core.sizes core.image (l.waiting s)) (sym (thread_else s differs)) (inv.threads s below))) (cases_eq s t);
+        (subst (ThreadStands core.sizes core.image (l.waiting s)) (sym (thread_else s differs)) (inv.threads s below)));
     nowhere_else = λ s beyond. updated_else l.waiting t (top ∷ l.waiting t) s (λ same. omega (arith, exists)) ∙ inv.nowhere_else s beyond;
     nodes = inv.nodes;
     standing = λ c below. standing_now c (inv.standing c below);
-    off_cpu = λ s below off.
-        ⊎_elim
-        (λ (same : s ≡ t).
-        subst (λ x. AllByRecursion (RestartPoint core.image) (frames_of (thread_at after x))) (sym same) (subst (λ x. AllByRecursion (RestartPoint core.image) (frames_of x)) (sym thread_here) all_restart))
-        (λ (differs : s ≡ t → ⊥). subst (λ x. AllByRecursion (RestartPoint core.image) (frames_of x)) (sym (thread_else s differs)) (inv.off_cpu s below off)) (cases_eq s t);
+    off_cpu = here_or_else (λ s. s < core.sizes.threads → ((c : ℕ) → l.current c ≡ Some s → ⊥) → AllByRecursion (RestartPoint core.image) (frames_of (thread_at after s))) t
+        (λ below off. subst (λ x. AllByRecursion (RestartPoint core.image) (frames_of x)) (sym thread_here) all_restart)
+        (λ s differs below off. subst (λ x. AllByRecursion (RestartPoint core.image) (frames_of x)) (sym (thread_else s differs)) (inv.off_cpu s below off));
   }

@@ -24,7 +24,7 @@ use Rattle.model.specs.State.{no_cpu, no_thread, put_thread, thread_at, cpu_at, 
 use Rattle.model.specs.Calls.{by_kind, operation_of, cpu_of, after_verdict, with_thread, Disturbs, DisturbsCurrent}
 use Rattle.model.specs.Ledger.{Ledger, updated}
 use Rattle.model.specs.Claims.{is_thread, HasMeaning}
-use Rattle.lives.proofs.Nodes.{updated_here, updated_else}
+use Rattle.lives.proofs.Nodes.{here_or_else, updated_here, updated_else}
 use Rattle.lives.proofs.Midway.{Valid}
 use Rattle.lives.proofs.Standing.{RestartPoint, Standing, idle, resting, Invariant}
 use Rattle.lives.proofs.Disturbing.{meaning_changed, Calmed, ByOutcome, by_verdict}
@@ -165,11 +165,8 @@ module _ {E : Type 0} (meaning : E → Meaning) (told : E → Notice → E → T
           invariant = calmed.invariant;
           restart = λ s there. subst (λ x. AllByRecursion (RestartPoint m.0.image) (frames_of (thread_at (put_thread m.0 t th) x))) (same_Some _ _ (sym on ∙ there)) calmed.restart;
           threads_else = λ s differs. get_or-set_other m.0.threads t s th no_thread (λ same. differs (on ∙ ap Some (sym same)));
-          depths = λ s.
-              ⊎_elim
-              (λ (same : s ≡ t).
-              ap (λ x. (thread_at (put_thread m.0 t th) x).depth) same ∙ ap (λ (x : Thread). x.depth) (thread_there th) ∙ verdict_depth v th is ∙ ap (λ x. (thread_at m.0 x).depth) (sym same))
-              (λ (differs : s ≡ t → ⊥). ap (λ (x : Thread). x.depth) (get_or-set_other m.0.threads t s th no_thread differs)) (cases_eq s t);
+          depths = here_or_else (λ s. (thread_at (put_thread m.0 t th) s).depth ≡ (thread_at m.0 s).depth) t (ap (λ (x : Thread). x.depth) (thread_there th) ∙ verdict_depth v th is)
+              (λ s differs. ap (λ (x : Thread). x.depth) (get_or-set_other m.0.threads t s th no_thread differs));
           same_image = refl;
           same_sizes = refl;
         }

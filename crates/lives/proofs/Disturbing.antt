@@ -16,6 +16,7 @@ use Rattle.model.specs.declared.state.Core.{Core}
 use Rattle.model.specs.State.{no_thread, put_thread, thread_at, cpu_at, top_frame, descriptor_of_operation}
 use Rattle.model.specs.Calls.{after_verdict}
 use Rattle.model.specs.Ledger.{Ledger}
+use Rattle.lives.proofs.Nodes.{here_or_else}
 use Rattle.lives.proofs.Midway.{words_of}
 use Rattle.lives.proofs.Standing.{RestartPoint, at_entry, at_abort, at_start, Midway, Standing, restarting, ThreadStands, Invariant, StandsThere, restarts_there, midway_there, stands_there}
 use Rattle.lives.proofs.Keeping.{Change, kept}
@@ -42,9 +43,8 @@ meaning_changed l m n core c inv sections patience_else standing = record {
   threads = inv.threads;
   nowhere_else = inv.nowhere_else;
   nodes = inv.nodes;
-  standing = λ other exists.
-      ⊎_elim (λ (same : other ≡ c). subst (λ x. Standing core (n.patience x) x) (sym same) standing)
-      (λ (differs : other ≡ c → ⊥). subst (λ p. Standing core p other) (sym (patience_else other differs)) (inv.standing other exists)) (cases_eq other c);
+  standing = here_or_else (λ x. x < core.sizes.cpus → Standing core (n.patience x) x) c (λ exists. standing)
+      (λ x differs exists. subst (λ p. Standing core p x) (sym (patience_else x differs)) (inv.standing x exists));
   off_cpu = inv.off_cpu;
 }
 

@@ -12,6 +12,7 @@ use Rattle.model.specs.Calls.{ToldIf, Performs, Runs, none, more}
 use Rattle.model.specs.Ledger.{Ledger, Waiting, settle_top, settle_on}
 use Rattle.model.specs.Claims.{HasMeaning, Mark, instruction, instructions_of}
 use Rattle.model.proofs.Calling.{only_own}
+use Rattle.lives.proofs.Nodes.{here_or_else}
 use Rattle.lives.proofs.Standing.{Invariant}
 use Rattle.lives.proofs.Wholes.{whole_elsewhere}
 use Rattle.lives.proofs.Instructing.{Becomes, BySettled, Quiet, Settled, instructed}
@@ -33,9 +34,9 @@ noted c new marks x = cond (eqb c x) new [] ++ marks x
 
 -- What holds of that CPU and its longer trace, and of every other CPU and its trace, holds of each CPU.
 pub noted_each : (P : ℕ → List Mark → Type 0) (c : ℕ) (new : List Mark) (marks : ℕ → List Mark) → P c (new ++ marks c) → ((x : ℕ) → (x ≡ c → ⊥) → P x (marks x)) → (x : ℕ) → P x (noted c new marks x)
-noted_each P c new marks here elsewhere x =
-    ⊎_elim (λ (same : x ≡ c). subst (λ y. P y (noted c new marks y)) (sym same) (subst (λ b. P c (cond b new [] ++ marks c)) (sym (eq-eqb c c refl)) here))
-    (λ (differs : x ≡ c → ⊥). subst (λ b. P x (cond b new [] ++ marks x)) (sym (ne_eqb c x (λ same. differs (sym same)))) (elsewhere x differs)) (cases_eq x c)
+noted_each P c new marks here elsewhere =
+    here_or_else (λ x. P x (noted c new marks x)) c (subst (λ b. P c (cond b new [] ++ marks c)) (sym (eq-eqb c c refl)) here)
+    (λ x differs. subst (λ b. P x (cond b new [] ++ marks x)) (sym (ne_eqb c x (λ same. differs (sym same)))) (elsewhere x differs))
 
 noted_more : (c : ℕ) (mark : Mark) (new : List Mark) (marks : ℕ → List Mark) (x : ℕ) → noted c (mark ∷ []) (noted c new marks) x ≡ noted c (mark ∷ new) marks x
 noted_more c mark new marks x = go (eqb c x)
