@@ -78,13 +78,12 @@ module _ (l : Ledger) (m : Meaning) (core : Core) (c : ℕ) (o : Option ℕ) (in
   off_cpu : (s : ℕ) → s < core.sizes.threads → ((other : ℕ) → k.current other ≡ Some s → ⊥) → (before : Option ℕ) → l.current c ≡ before → AllByRecursion (RestartPoint core.image) (frames_of (thread_at core s))
   off_cpu s below off None is =
       inv.off_cpu s below
-      (λ other on. ⊎_elim (λ (same : other ≡ c). absurd (none-some _ (sym is ∙ ap l.current (sym same) ∙ on))) (λ (differs : other ≡ c → ⊥). off other (now_else other differs ∙ on)) (cases_eq other c))
+      (here_or_else (λ x. l.current x ≡ Some s → ⊥) c (λ on. none-some s (sym is ∙ on)) (λ x differs on. off x (now_else x differs ∙ on)))
   off_cpu s below off (Some r) is =
       ⊎_elim (λ (same : r ≡ s). restart s (is ∙ ap Some same))
       (λ (differs : r ≡ s → ⊥).
       inv.off_cpu s below
-      (λ other on.
-      ⊎_elim (λ (same : other ≡ c). differs (same_Some _ _ (sym is ∙ ap l.current (sym same) ∙ on))) (λ (apart : other ≡ c → ⊥). off other (now_else other apart ∙ on)) (cases_eq other c)))
+      (here_or_else (λ x. l.current x ≡ Some s → ⊥) c (λ on. differs (same_Some _ _ (sym is ∙ on))) (λ x apart on. off x (now_else x apart ∙ on))))
       (cases_eq r s)
 
   -- Where a thread is now, it was before, or it is the new one.
