@@ -80,6 +80,9 @@ module _ {E : Type 0} (meaning : E → Meaning) (told : E → Notice → E → T
     abbrev After : Call → Answered → Core × E → Type 0
     After x r k = LivedWell sizes (event x r ∷ before) k
 
+    as_answered : (x : Call) {r s : Answered} {k n : Core × E} → r ≡ s → k ≡ n → After x s n → After x r k
+    as_answered x {s = s} {k} answer same after = subst (λ a. After x a k) (sym answer) (subst (After x s) (sym same) after)
+
     -- Refused, but not held: nothing has happened.
     unmarked : (x : Call) (fault : Fault) → NotHeld fault → (c : ℕ) → marks c ≡ trace sizes (event x (refused fault) ∷ before) c
     unmarked x fault other c = sym (ap (λ b. cond (about l c x) (cond b (held x ∷ []) []) [] ++ marks c) other ∙ cond_both (about l c x) [] [] (λ new. new ++ marks c ≡ marks c) (λ e. refl) (λ e. refl))
@@ -92,7 +95,7 @@ module _ {E : Type 0} (meaning : E → Meaning) (told : E → Notice → E → T
         → (AllByRecursion (λ (check : Check). check.passes ≡ true) checks → done → After x r k) → (o : Result (Unit {0}) Fault) → all_pass checks ≡ o → ByChecks told answers m o r k done → After x r k
     checked x checks r k done others then (Ok u) is d = then (all_passed tt u checks is) d
     checked x checks r k done others then (Err fault) is (answer, same) =
-        subst (λ a. After x a k) (sym answer) (subst (After x (refused fault)) (sym same) (refused_well x fault (fault_among NotHeld tt checks fault others is)))
+        as_answered x answer same (refused_well x fault (fault_among NotHeld tt checks fault others is))
 
     -- Held.
     held_event : (x : Call) (c : ℕ) (exists : c < sizes.cpus) → IsHeld meaning told answers has l m c inv exists → ((other : ℕ) → about l other x ≡ eqb c other) → After x (refused (fault_at Held 0)) m
@@ -117,6 +120,16 @@ module _ {E : Type 0} (meaning : E → Meaning) (told : E → Notice → E → T
     empty_restarts : (t : ℕ) → (thread_at core t).depth ≡ 0 → AllByRecursion (RestartPoint core.image) (frames_of (thread_at core t))
     empty_restarts t rests = subst (AllByRecursion (RestartPoint core.image)) (sym (ap (λ n. reverse (take n (thread_at core t).frames)) rests)) tt
 
+    -- An operation on top of a thread that is on no CPU, or has nothing to do.
+    on_top : (t : ℕ) (raw : RawOperation) (operation : Operation) → operation_of sizes raw ≡ Some operation → t < sizes.threads → (thread_at core t).depth < 8
+        → AllByRecursion (RestartPoint core.image) (frames_of (thread_at core t)) → ((c : ℕ) → l.current c ≡ Some t → (thread_at core t).depth ≡ 0)
+        → Well meaning (brings l number t (Some operation)) marks (with_frame t operation core, m.1)
+    on_top t raw operation is exists room restart rests =
+        enlisted_well meaning l marks m lived_so.well _ (with_frame t operation core) t refl
+        (enlisted l (meaning m.1) core t number operation inv exists room restart (operation_valid sizes raw operation is) (λ c on. rest_is_calm c t on (rests c on))) (λ c. refl)
+        (λ s differs. get_or-set_other core.threads t s _ no_thread differs)
+        (subst (λ (x : Thread). 0 < x.depth) (sym (get_or-set_same core.threads t _ no_thread (omega (arith, exists, inv.limits.threads, inv.sixteen_threads)))) (omega arith)) rests
+
     -- Enlist.
     enlist_accepted : (t : ℕ) (raw : RawOperation) (operation : Operation) → operation_of sizes raw ≡ Some operation → t < sizes.threads → (thread_at core t).depth ≡ 0
         → After (call.Enlist t raw) accepted (with_frame t operation core, m.1)
@@ -124,10 +137,7 @@ module _ {E : Type 0} (meaning : E → Meaning) (told : E → Notice → E → T
       same_sizes = refl;
       well =
           subst (λ o. Well meaning (brings l number t o) (trace sizes (event (call.Enlist t raw) accepted ∷ before)) (with_frame t operation core, m.1)) (sym is)
-          (enlisted_well meaning l marks m lived_so.well _ (with_frame t operation core) t refl
-          (enlisted l (meaning m.1) core t number operation inv exists (omega (arith, rests)) (empty_restarts t rests) (operation_valid sizes raw operation is) (λ c on. rest_is_calm c t on rests)) (λ c. refl)
-          (λ s differs. get_or-set_other core.threads t s _ no_thread differs)
-          (subst (λ (x : Thread). 0 < x.depth) (sym (get_or-set_same core.threads t _ no_thread (omega (arith, exists, inv.limits.threads, inv.sixteen_threads)))) (omega arith)) (λ c on. rests));
+          (on_top t raw operation is exists (omega (arith, rests)) (empty_restarts t rests) (λ c on. rests));
       settlings = (refl, lived_so.settlings);
     }
 
@@ -137,9 +147,7 @@ module _ {E : Type 0} (meaning : E → Meaning) (told : E → Notice → E → T
         (λ passed d.
         by_operation told answers (operation_of sizes raw) (λ operation. (r ≡ accepted) × (k.0 ≡ with_frame t operation core) × (k.1 ≡ m.1)) (After (call.Enlist t raw) r k) d
         (λ operation is p.
-        subst (λ a. After (call.Enlist t raw) a k) (sym p.0)
-        (subst (After (call.Enlist t raw) accepted) (sym (ap₂ (λ a b. (a, b)) p.1 p.2))
-        (enlist_accepted t raw operation is (ltb-true t sizes.threads passed.0) (eqb-true (thread_at core t).depth 0 passed.1.1.0)))))
+        as_answered (call.Enlist t raw) p.0 (ap₂ (λ a b. (a, b)) p.1 p.2) (enlist_accepted t raw operation is (ltb-true t sizes.threads passed.0) (eqb-true (thread_at core t).depth 0 passed.1.1.0))))
         _ refl step
 
     -- Run.
@@ -200,7 +208,7 @@ module _ {E : Type 0} (meaning : E → Meaning) (told : E → Notice → E → T
     changed : (x : Call) (c : ℕ) (to : Option ℕ) (exists : c < sizes.cpus) → Free to → ((other : ℕ) → about l other x ≡ eqb c other)
         → ((r : Answered) (k : Core × E) → r ≡ accepted → Well meaning (with_current_ledger c to) (noted c (granted ∷ []) marks) k → k.0.sizes ≡ sizes → After x r k)
         → (r : Answered) (k : Core × E) (o : Option Core) → ByCore meaning told answers has l m c inv exists o → Granted told answers m c o (given_thread c to) r k → After x r k
-    changed x c to exists free about_it then r k None is_held_lem (answer, same) = subst (λ a. After x a k) (sym answer) (subst (After x (refused (fault_at Held 0))) (sym same) (held_event x c exists is_held_lem about_it))
+    changed x c to exists free about_it then r k None is_held_lem (answer, same) = as_answered x answer same (held_event x c exists is_held_lem about_it)
     changed x c to exists free about_it then r k (Some later) is_calm (answer, core_is, tells) =
         let calm = is_calm k.1 tells in
         let becomes : PatienceBecomes (meaning m.1) c 0 (meaning k.1) = has.obeys m.1 (Left c) k.1 tells in
@@ -249,10 +257,7 @@ module _ {E : Type 0} (meaning : E → Meaning) (told : E → Notice → E → T
           well =
               subst (λ o. Well meaning (brings l number t o) (trace sizes (event (call.Signal t raw) accepted ∷ before)) (with_frame t operation core, m.1)) (sym is)
               (well_marks meaning _ marks _ _ (λ c. sym (ap (λ b. cond b (granted ∷ []) [] ++ marks c) (not_thread l t (l.current c) (off c))))
-              (enlisted_well meaning l marks m lived_so.well _ (with_frame t operation core) t refl
-              (enlisted l (meaning m.1) core t number operation inv exists room (inv.off_cpu t exists off) (operation_valid sizes raw operation is) (λ c on. absurd (off c on))) (λ c. refl)
-              (λ s differs. get_or-set_other core.threads t s _ no_thread differs)
-              (subst (λ (x : Thread). 0 < x.depth) (sym (get_or-set_same core.threads t _ no_thread (omega (arith, exists, inv.limits.threads, inv.sixteen_threads)))) (omega arith)) (λ c on. absurd (off c on))));
+              (on_top t raw operation is exists room (inv.off_cpu t exists off) (λ c on. absurd (off c on))));
           settlings = (refl, lived_so.settlings);
         }
 
@@ -266,7 +271,7 @@ module _ {E : Type 0} (meaning : E → Meaning) (told : E → Notice → E → T
     signal_here : (t : ℕ) (raw : RawOperation) (operation : Operation) (c : ℕ) (exists : c < sizes.cpus) → operation_of sizes raw ≡ Some operation → t < sizes.threads → (thread_at core t).depth < 8 → l.current c ≡ Some t
         → (r : Answered) (k : Core × E) (o : Option Core) → ByCore meaning told answers has l m c inv exists o → Granted told answers m c o (with_frame t operation) r k → After (call.Signal t raw) r k
     signal_here t raw operation c exists is t_exists room on r k None is_held_lem (answer, same) =
-        subst (λ a. After (call.Signal t raw) a k) (sym answer) (subst (After (call.Signal t raw) (refused (fault_at Held 0))) (sym same) (held_event (call.Signal t raw) c exists is_held_lem (about_thread t c on)))
+        as_answered (call.Signal t raw) answer same (held_event (call.Signal t raw) c exists is_held_lem (about_thread t c on))
     signal_here t raw operation c exists is t_exists room on r k (Some later) is_calm (answer, core_is, tells) =
         let calm = is_calm k.1 tells in
         let becomes : PatienceBecomes (meaning m.1) c 0 (meaning k.1) = has.obeys m.1 (Left c) k.1 tells in
@@ -292,7 +297,7 @@ module _ {E : Type 0} (meaning : E → Meaning) (told : E → Notice → E → T
     signal_by : (t : ℕ) (raw : RawOperation) (operation : Operation) → operation_of sizes raw ≡ Some operation → t < sizes.threads → (thread_at core t).depth < 8 → (r : Answered) (k : Core × E) (o : Option ℕ) → cpu_of core t ≡ o
         → Signals told answers m t operation o r k → After (call.Signal t raw) r k
     signal_by t raw operation is exists room r k None nowhere (answer, core_is, same) =
-        subst (λ a. After (call.Signal t raw) a k) (sym answer) (subst (After (call.Signal t raw) accepted) (sym (ap₂ (λ a b. (a, b)) core_is same)) (signal_elsewhere t raw operation is exists room nowhere))
+        as_answered (call.Signal t raw) answer (ap₂ (λ a b. (a, b)) core_is same) (signal_elsewhere t raw operation is exists room nowhere)
     signal_by t raw operation is exists room r k (Some c) there (o, disturbs, grants) =
         let on : l.current c ≡ Some t = sym (inv.current c) ∙ cpu_has core t c there in
         let c_exists = (inv.current_exists c t on).0 in
