@@ -1,5 +1,5 @@
 -- Numbers and fields where they stand: what is written there is read, and what is read was written there.
-use Rattle.std.proofs.Common.{◌≡◌, ℕ, ◌+◌, ◌^◌, ◌<◌, ◌≤◌, Bool, true, false, cond, List, [], ◌∷◌, ◌++◌, length, drop, Ok, Err, Result, sym, refl, ap, ◌∙◌, subst₂, append_assoc, arith, length-append}
+use Rattle.std.proofs.Common.{◌≡◌, ℕ, ◌+◌, ◌^◌, ◌<◌, ◌≤◌, Bool, true, false, cond, List, [], ◌∷◌, ◌++◌, length, drop, Ok, Err, Result, sym, refl, ap, ◌∙◌, subst, append_assoc, arith, length-append}
 use Rattle.std.proofs.lemmas.List.{drop-drop, drop_at}
 use Rattle.faults.specs.declared.Fault.{Fault}
 use Rattle.numbers.specs.Spelling.{Bytes, spelling}
@@ -31,11 +31,9 @@ pub split : {X Y : Type 0} (r : Read X) (next : X → ℕ → Read Y) (z : Y × 
 split (Ok p) next z e = record { value = p.0; at = p.1; first = refl; second = e }
 split (Err f) next z e = cc
 
-pub same_value : {X : Type 0} {x y : X} {m n : ℕ} → ◌≡◌ {A = Read X} (Ok (x, m)) (Ok (y, n)) → x ≡ y
-same_value {X} {x} {y} {m} {n} e = let same : ◌≡◌ {A = X × ℕ} (x, m) (y, n) = cc in ap (λ p. p.0) same
-
-pub same_place : {X : Type 0} {x y : X} {m n : ℕ} → ◌≡◌ {A = Read X} (Ok (x, m)) (Ok (y, n)) → m ≡ n
-same_place {X} {x} {y} {m} {n} e = let same : ◌≡◌ {A = X × ℕ} (x, m) (y, n) = cc in ap (λ p. p.1) same
+-- What holds of one answer holds of the same answer.
+pub as_read : {X : Type 0} (P : X → ℕ → Type 0) {x y : X} {m n : ℕ} → ◌≡◌ {A = Read X} (Ok (x, m)) (Ok (y, n)) → P x m → P y n
+as_read {X} P {x} {y} {m} {n} e p = let same : ◌≡◌ {A = X × ℕ} (x, m) (y, n) = cc in subst (λ q. P q.0 q.1) same p
 
 -- A field within its limits.
 accepted : (p : ℕ × ℕ) (at : ℕ) (check : Check) → check.passes ≡ true → refused_by_boot at (first_failing p (check ∷ [])) ≡ Ok p
@@ -98,10 +96,8 @@ module _ (bytes : List ℕ) (at n next : ℕ) (ok : Bytes bytes) where
   checked_stood check e =
       let s = split (number_at bytes at) (λ m there. refused_by_boot at (first_failing (m, there) (check m ∷ []))) (n, next) e in
       let p = passed (s.value, s.at) (n, next) at (check s.value) s.second in
-      let value = ap (λ q. q.0) p.1 in
-      let place = ap (λ q. q.1) p.1 in
       let stood = number_stood bytes at s.value s.at ok s.first in
-      (ap (λ m. (check m).passes) (sym value) ∙ p.0, subst₂ (λ m there. Stands bytes at (spelling m) there) value place stood.1)
+      subst (λ q. ((check q.0).passes ≡ true) × Stands bytes at (spelling q.0) q.1) p.1 (p.0, stood.1)
 
   pub field_stood : (field : Field) → field_at bytes at field ≡ Ok (n, next) → Within field n × Stands bytes at (spelling n) next
   field_stood field e = let c = checked_stood (field_check field) e in (between_parts (least field) (largest field) n c.0, c.1)
