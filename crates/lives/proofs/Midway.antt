@@ -130,6 +130,10 @@ abbrev pub ByAnswer : Option Answer → Type 0 → (Answer → Type 0) → Type 
 ByAnswer None going settled = going
 ByAnswer (Some answer) going settled = settled answer
 
+pub by_hand_cases : (P : Effect → Type 0) (f : ℕ → Effect) (otherwise : Effect) (o : Option ℕ) → (o ≡ None → P otherwise) → ((node : ℕ) → o ≡ Some node → P (f node)) → P (by_hand o f otherwise)
+by_hand_cases P f otherwise None none some = none refl
+by_hand_cases P f otherwise (Some node) none some = some node refl
+
 module _ (core : Core) (l : Ledger) (here t : ℕ) (thread : Thread) (cpu : Cpu) (next : List ℕ) where
   -- It goes on: the ledger still describes the structures, and one word more is known.
   pub record GoesOn (operation : Operation) (i : ℕ) (e : Effect) : Type 0 where
@@ -165,10 +169,6 @@ module _ (core : Core) (l : Ledger) (here t : ℕ) (thread : Thread) (cpu : Cpu)
 
   abbrev KnownNow : Operation → ℕ → Type 0
   KnownNow operation i = Known core.sizes.packets cpu next thread operation i
-
-  by_hand_cases : (P : Effect → Type 0) (f : ℕ → Effect) (otherwise : Effect) (o : Option ℕ) → (o ≡ None → P otherwise) → ((node : ℕ) → o ≡ Some node → P (f node)) → P (by_hand o f otherwise)
-  by_hand_cases P f otherwise None none some = none refl
-  by_hand_cases P f otherwise (Some node) none some = some node refl
 
   -- What stands, for the structures of the CPU and the thread's hand.
   module _
