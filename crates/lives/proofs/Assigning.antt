@@ -18,7 +18,6 @@ use Rattle.lives.proofs.Standing.{RestartPoint, at_entry, Midway, Standing, idle
 use Rattle.lives.proofs.Threads.{all_top, pushed_stands, pushed_frames}
 use Rattle.lives.specs.Apart.{begun, frames_of}
 
-
 -- A thread all of whose frames stand at restart points, on a CPU without patience.
 pub calm_standing : (core : Core) (patience c t : ℕ) → (cpu_at core c).current ≡ Some t → patience ≡ 0 → Whole (thread_at core t) → AllByRecursion (RestartPoint core.image) (frames_of (thread_at core t)) → Standing core patience c
 calm_standing core patience c t on calm whole all =

@@ -17,7 +17,7 @@ use Rattle.model.specs.declared.state.Operation.{Operation}
 use Rattle.model.specs.declared.state.Core.{Core}
 use Rattle.model.specs.declared.state.Settling.{Settling}
 use Rattle.model.specs.State.{thread_at, cpu_at, top_frame}
-use Rattle.model.specs.Calls.{ByChecks, Stopped, ByCurrent, ByOperation, Granted, refused, ran, advanced, operation_of, has_cpu, has_thread, is_operation, has_room, cpu_of, not_current, has_current, has_work, DisturbsCurrent, Performs, Runs, Signals, Step}
+use Rattle.model.specs.Calls.{ByChecks, Stopped, Granted, refused, ran, advanced, operation_of, has_cpu, has_thread, is_operation, has_room, cpu_of, not_current, has_current, has_work, DisturbsCurrent, Performs, Runs, Signals, Step}
 use Rattle.model.specs.Ledger.{Ledger, new_ledger}
 use Rattle.model.specs.Life.{Event, ledger, Life, booted, lived}
 use Rattle.model.specs.Claims.{HasMeaning, StructuresAgree, Mark, instruction, held, about, trace, NothingGranted, Settles, ByThread, Faithful}

@@ -1,5 +1,5 @@
 -- Every call keeps what holds of a machine with a past.
-use Rattle.std.proofs.Common.{◌≡◌, ℕ, zero, suc, ◌<◌, Bool, true, false, cond, eqb, List, [], ◌∷◌, ◌++◌, reverse, length, take, replicate, is_some, Some, None, Ok, Err, Option, Result, sym, refl, ap, ap₂, ◌∙◌, subst, ⊎_elim, arith, get_or-set_other, get_or-set_same}
+use Rattle.std.proofs.Common.{◌≡◌, ℕ, zero, suc, ◌<◌, true, false, cond, eqb, List, [], ◌∷◌, ◌++◌, reverse, length, take, replicate, is_some, Some, None, Ok, Err, Option, Result, sym, refl, ap, ap₂, ◌∙◌, subst, ⊎_elim, arith, get_or-set_other, get_or-set_same}
 use Rattle.std.proofs.lemmas.Bool.{cond_both, cases_eq, eq-eqb, ne_eqb, eqb-true, ltb-true, not-true}
 use Rattle.std.proofs.lemmas.Option.{same_Some}
 use Rattle.std.specs.List.{AllByRecursion}
@@ -21,7 +21,7 @@ use Rattle.model.specs.declared.state.Thread.{Thread}
 use Rattle.model.specs.declared.state.Core.{Core}
 use Rattle.model.specs.declared.state.Settling.{Settling}
 use Rattle.model.specs.State.{no_thread, thread_at, cpu_at}
-use Rattle.model.specs.Calls.{ByChecks, Stopped, ByCurrent, ByOperation, Granted, Answered, refused, accepted, ran, advanced, operation_of, has_cpu, has_thread, is_operation, has_no_frame, has_room, cpu_of, not_current, has_current, current_works, has_work, DisturbsCurrent, Performs, Runs, Signals, Step}
+use Rattle.model.specs.Calls.{ByChecks, Stopped, Granted, Answered, refused, accepted, ran, advanced, operation_of, has_cpu, has_thread, is_operation, has_no_frame, has_room, cpu_of, not_current, has_current, current_works, has_work, DisturbsCurrent, Performs, Runs, Signals, Step}
 use Rattle.model.specs.Ledger.{Ledger, updated, brings}
 use Rattle.model.specs.Ledger.{with_current as ledger-current}
 use Rattle.model.specs.Life.{Event, ledger}

@@ -1,5 +1,5 @@
 -- The ledger alone: whatever its past, an operation that was brought has settled once or waits once.
-use Rattle.std.proofs.Common.{◌≡◌, ℕ, suc, ◌+◌, ◌<◌, Bool, true, false, cond, leb, ◌⊎◌, List, [], ◌∷◌, ◌++◌, length, Some, None, Option, sym, refl, ap, ◌∙◌, subst, inl, inr, ⊎_elim, arith}
+use Rattle.std.proofs.Common.{◌≡◌, ℕ, suc, ◌+◌, ◌<◌, cond, leb, ◌⊎◌, List, [], ◌∷◌, ◌++◌, length, Some, None, Option, sym, refl, ap, ◌∙◌, subst, inl, inr, ⊎_elim, arith}
 use Rattle.std.proofs.lemmas.Bool.{cond_both, eq-eqb, ne_eqb, cases_eq}
 use Rattle.image.specs.declared.fields.Sizes.{Sizes}
 use Rattle.calls.specs.declared.Call.{Call}
@@ -235,4 +235,3 @@ nothing_invented sizes past number none = by ((always_kept sizes past).each numb
     by (never n) = (n.not_settled, n.waits_nowhere)
     by (settles s) = absurd (omega (arith, s.brought, none))
     by (waits w) = absurd (omega (arith, w.brought, none))
-

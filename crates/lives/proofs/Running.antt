@@ -1,6 +1,6 @@
 -- Runs of a CPU, one instruction after another: all is kept, settlings are the ledger's, and the trace keeps its pace.
-use Rattle.std.proofs.Common.{◌≡◌, ℕ, zero, suc, ◌<◌, Bool, true, false, cond, eqb, List, [], ◌∷◌, ◌++◌, replicate, Some, None, Option, sym, refl, ap, ◌∙◌, subst, ⊎_elim}
-use Rattle.std.proofs.lemmas.Bool.{cases_eq, cond_both, eq-eqb, ne_eqb}
+use Rattle.std.proofs.Common.{◌≡◌, ℕ, zero, suc, ◌<◌, Bool, true, false, cond, eqb, List, [], ◌∷◌, ◌++◌, replicate, Some, None, Option, sym, refl, ap, ◌∙◌, subst}
+use Rattle.std.proofs.lemmas.Bool.{cond_both, eq-eqb, ne_eqb}
 use Rattle.exclusion.specs.declared.meaning.Notice.{Notice}
 use Rattle.exclusion.specs.declared.meaning.Verdict.{Verdict}
 use Rattle.exclusion.specs.Meaning.{Meaning}

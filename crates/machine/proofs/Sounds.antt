@@ -10,7 +10,7 @@ use Rattle.model.specs.declared.state.Cpu.{Cpu}
 use Rattle.model.specs.declared.state.Image.{Image}
 use Rattle.model.specs.declared.state.Core.{Core}
 use Rattle.model.specs.State.{no_cpu, no_thread, thread_at, cpu_at, top_frame}
-use Rattle.model.specs.Words.{Effect, by_add, by_put, by_hand, performed}
+use Rattle.model.specs.Words.{Effect, by_add, by_put, performed}
 use Rattle.lives.proofs.Midway.{by_hand_cases}
 use Rattle.machine.specs.Sound.{Sound}
 use Rattle.lives.specs.Apart.{does, does_here, word_here}

@@ -1,7 +1,6 @@
 -- Numbers and fields where they stand: what is written there is read, and what is read was written there.
-use Rattle.std.proofs.Common.{◌≡◌, ℕ, ◌+◌, ◌^◌, ◌<◌, ◌≤◌, Bool, true, false, cond, List, [], ◌∷◌, ◌++◌, length, drop, Ok, Err, Result, sym, refl, ap, ◌∙◌, subst, append_assoc, arith, length-append}
+use Rattle.std.proofs.Common.{◌≡◌, ℕ, ◌+◌, ◌^◌, ◌<◌, ◌≤◌, Bool, true, false, cond, List, [], ◌∷◌, ◌++◌, length, drop, Ok, Err, sym, refl, ap, ◌∙◌, subst, append_assoc, arith, length-append}
 use Rattle.std.proofs.lemmas.List.{drop-drop, drop_at}
-use Rattle.faults.specs.declared.Fault.{Fault}
 use Rattle.numbers.specs.Spelling.{Bytes, spelling}
 use Rattle.numbers.specs.Reading.{number_at}
 use Rattle.numbers.proofs.Spelled.{read_there, was_there}
