@@ -14,7 +14,7 @@ use Rattle.model.specs.Ledger.{with_current as ledger-current}
 use Rattle.lives.proofs.Nodes.{here_or_else, updated_here, updated_else}
 use Rattle.lives.proofs.Stacks.{Whole}
 use Rattle.lives.proofs.Midway.{Holds, Valid}
-use Rattle.lives.proofs.Standing.{RestartPoint, at_entry, Midway, Standing, idle, resting, restarting, midway, ThreadStands, Invariant}
+use Rattle.lives.proofs.Standing.{RestartPoint, at_entry, Midway, Standing, idle, resting, restarting, midway, ThreadStands, Invariant, cpu_written, thread_written}
 use Rattle.lives.proofs.Threads.{all_top, pushed_stands, pushed_frames}
 use Rattle.lives.specs.Apart.{begun, frames_of}
 
@@ -38,7 +38,7 @@ module _ (l : Ledger) (m : Meaning) (core : Core) (c : ℕ) (o : Option ℕ) (in
   later = put_cpu core c cpu
 
   cpu_here : cpu_at later c ≡ cpu
-  cpu_here = get_or-set_same core.cpus c cpu no_cpu (omega (arith, exists, inv.limits.cpus, inv.eight_cpus))
+  cpu_here = cpu_written inv exists cpu
 
   cpu_else : (other : ℕ) → (other ≡ c → ⊥) → cpu_at later other ≡ cpu_at core other
   cpu_else other differs = get_or-set_other core.cpus c other cpu no_cpu differs
@@ -139,7 +139,7 @@ module _ (l : Ledger) (m : Meaning) (core : Core) (t number : ℕ) (operation : 
   after = put_thread core t thread
 
   thread_here : thread_at after t ≡ thread
-  thread_here = get_or-set_same core.threads t thread no_thread (omega (arith, exists, inv.limits.threads, inv.sixteen_threads))
+  thread_here = thread_written inv exists thread
 
   thread_else : (s : ℕ) → (s ≡ t → ⊥) → thread_at after s ≡ thread_at core s
   thread_else s differs = get_or-set_other core.threads t s thread no_thread differs

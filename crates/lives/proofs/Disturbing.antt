@@ -17,7 +17,7 @@ use Rattle.model.specs.Calls.{after_verdict}
 use Rattle.model.specs.Ledger.{Ledger}
 use Rattle.lives.proofs.Nodes.{here_or_else}
 use Rattle.lives.proofs.Midway.{words_of}
-use Rattle.lives.proofs.Standing.{RestartPoint, at_entry, at_abort, at_start, Midway, Standing, restarting, ThreadStands, Invariant, StandsThere, restarts_there, midway_there, stands_there}
+use Rattle.lives.proofs.Standing.{RestartPoint, at_entry, at_abort, at_start, Midway, Standing, restarting, ThreadStands, Invariant, StandsThere, restarts_there, midway_there, stands_there, thread_written}
 use Rattle.lives.proofs.Keeping.{Change, kept}
 use Rattle.lives.proofs.Threads.{TopBecomes, top_is, topped, all_from_top}
 use Rattle.lives.proofs.Wholes.{same_ledger}
@@ -155,7 +155,7 @@ module _ (l : Ledger) (m : Meaning) (core : Core) (c t : ℕ) (inv : Invariant l
       top_restarts = subst (RestartPoint core.image) (sym (top_is thread th frame stands.whole some becomes)) point
 
       here : thread_at (put_thread core t th) t ≡ th
-      here = get_or-set_same core.threads t th no_thread (omega (arith, t_exists, inv.limits.threads, inv.sixteen_threads))
+      here = thread_written inv t_exists th
 
       standing : Standing (put_thread core t th) (n.patience c) c
       standing =

@@ -24,7 +24,7 @@ use Rattle.model.specs.Claims.{among, found}
 use Rattle.lives.proofs.Nodes.{updated_here, settled_nodes, hand_found, hand_not_listed}
 use Rattle.lives.proofs.Stacks.{frames_top}
 use Rattle.lives.proofs.Midway.{words_of, word_number, Known, Holds, Valid, ByAnswer, OnlyTheHandsNode, GoesOn, SettlesAs, step_of, does_right}
-use Rattle.lives.proofs.Standing.{TextStands, RestartPoint, at_entry, at_abort, at_start, Midway, Standing, resting, restarting, midway, ThreadStands, Invariant, StandsThere, restarts_there, midway_there, stands_there}
+use Rattle.lives.proofs.Standing.{TextStands, RestartPoint, at_entry, at_abort, at_start, Midway, Standing, resting, restarting, midway, ThreadStands, Invariant, StandsThere, restarts_there, midway_there, stands_there, cpu_written, thread_written}
 use Rattle.lives.proofs.Keeping.{once_at_most, Change, after_change, kept}
 use Rattle.lives.proofs.Threads.{TopBecomes, top_is, topped, all_top, top_waits, dropped_stands, dropped_restarts}
 use Rattle.lives.proofs.Wholes.{same_ledger, whole_elsewhere, settled_elsewhere}
@@ -187,7 +187,7 @@ module _ (l : Ledger) (m : Meaning) (core : Core) (c t : ℕ) (inv : Invariant l
       record { invariant = kept l l m n core c t th cpus next change; still = still; patience_else = patience_else; nearer = ap (λ x. to_go core.image (top_frame x) + 4) here ∙ ap (λ f. to_go core.image f + 4) top ∙ nearer }
     where
       here : thread_at (after_change l l m n core c t th cpus next) t ≡ th
-      here = get_or-set_same core.threads t th no_thread (omega (arith, t_exists, inv.limits.threads, inv.sixteen_threads))
+      here = thread_written inv t_exists th
 
       top : top_frame th ≡ frame
       top = top_is thread th frame stands.whole some becomes
@@ -298,7 +298,7 @@ module _ (l : Ledger) (m : Meaning) (core : Core) (c t : ℕ) (inv : Invariant l
   cpus_at i = set core.cpus c (step_at i).cpu
 
   cpu_there : (i : ℕ) → get_or (cpus_at i) c no_cpu ≡ (step_at i).cpu
-  cpu_there i = get_or-set_same core.cpus c (step_at i).cpu no_cpu (omega (arith, c_exists, inv.limits.cpus, inv.eight_cpus))
+  cpu_there i = cpu_written inv c_exists (step_at i).cpu
 
   goes_right : (n : Meaning) (i : ℕ) (at : Midway core.sizes.packets core.image c (cpu_at core c) core.next thread) → at.words_done ≡ i
       → GoesOn core l c t thread (cpu_at core c) core.next operation i (step_at i) → PatienceBecomes m c (m.patience c - 1) n
@@ -385,7 +385,7 @@ module _ (l : Ledger) (m : Meaning) (core : Core) (c t : ℕ) (inv : Invariant l
       restart = dropped_restarts core.sizes core.image top rest thread (step_at i).thread stands_so some s.frames s.depth
 
       here : thread_at (after_change l (ledger_after rest operation) m n core c t (step_at i).thread (cpus_at i) (step_at i).next) t ≡ (step_at i).thread
-      here = get_or-set_same core.threads t (step_at i).thread no_thread (omega (arith, t_exists, inv.limits.threads, inv.sixteen_threads))
+      here = thread_written inv t_exists (step_at i).thread
 
       same_current : (get_or (cpus_at i) c no_cpu).current ≡ (cpu_at core c).current
       same_current = ap (λ (x : Cpu). x.current) (cpu_there i) ∙ s.current

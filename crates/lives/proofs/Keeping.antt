@@ -13,7 +13,7 @@ use Rattle.model.specs.Ledger.{Ledger}
 use Rattle.model.specs.Claims.{Listed, among, found}
 use Rattle.lives.proofs.Nodes.{here_or_else, hand_not_listed, hands_apart, listed_same}
 use Rattle.lives.proofs.Midway.{Known, Holds, OnlyTheHandsNode}
-use Rattle.lives.proofs.Standing.{RestartPoint, Midway, Standing, idle, resting, restarting, midway, ThreadStands, Invariant}
+use Rattle.lives.proofs.Standing.{RestartPoint, Midway, Standing, idle, resting, restarting, midway, ThreadStands, Invariant, thread_written}
 use Rattle.lives.specs.Apart.{frames_of, RingFromASlot}
 
 -- What is known in a section is not changed by next words that it does not read: those of the node in hand and of the list's
@@ -87,7 +87,7 @@ module _ (l k : Ledger) (m n : Meaning) (core : Core) (c t : ℕ) (th : Thread) 
     t_exists = (inv.current_exists c t change.on).1
 
     thread_here : thread_at after_change t ≡ th
-    thread_here = get_or-set_same core.threads t th no_thread (omega (arith, t_exists, inv.limits.threads, inv.sixteen_threads))
+    thread_here = thread_written inv t_exists th
 
     thread_else : (s : ℕ) → (s ≡ t → ⊥) → thread_at after_change s ≡ thread_at core s
     thread_else s differs = get_or-set_other core.threads t s th no_thread differs

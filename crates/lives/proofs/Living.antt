@@ -29,7 +29,7 @@ use Rattle.model.specs.Claims.{is_thread, HasMeaning, Mark, instruction, granted
 use Rattle.model.proofs.Calling.{by_current, by_operation}
 use Rattle.lives.proofs.Nodes.{updated_else}
 use Rattle.lives.proofs.Midway.{Valid}
-use Rattle.lives.proofs.Standing.{RestartPoint, Standing, idle, resting, restarting, midway, Invariant}
+use Rattle.lives.proofs.Standing.{RestartPoint, Standing, idle, resting, restarting, midway, Invariant, thread_written}
 use Rattle.lives.proofs.Assigning.{assigned, enlisted}
 use Rattle.lives.proofs.Running.{Well, well_marks, noted, ran_well, runs_well, runs_settle}
 use Rattle.lives.proofs.Granting.{granted_well, held_well, enlisted_well, thread_there, not_thread}
@@ -128,7 +128,7 @@ module _ {E : Type 0} (meaning : E → Meaning) (told : E → Notice → E → T
         enlisted_well meaning l marks m lived_so.well _ (with_frame t operation core) t refl
         (enlisted l (meaning m.1) core t number operation inv exists room restart (operation_valid sizes raw operation is) (λ c on. rest_is_calm c t on (rests c on))) (λ c. refl)
         (λ s differs. get_or-set_other core.threads t s _ no_thread differs)
-        (subst (λ (x : Thread). 0 < x.depth) (sym (get_or-set_same core.threads t _ no_thread (omega (arith, exists, inv.limits.threads, inv.sixteen_threads)))) (omega arith)) rests
+        (subst (λ (x : Thread). 0 < x.depth) (sym (thread_written inv exists _)) (omega arith)) rests
 
     -- Enlist.
     enlist_accepted : (t : ℕ) (raw : RawOperation) (operation : Operation) → operation_of sizes raw ≡ Some operation → t < sizes.threads → (thread_at core t).depth ≡ 0
