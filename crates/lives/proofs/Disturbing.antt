@@ -21,7 +21,7 @@ use Rattle.lives.proofs.Standing.{RestartPoint, at_entry, at_abort, at_start, Mi
 use Rattle.lives.proofs.Keeping.{Change, kept}
 use Rattle.lives.proofs.Threads.{TopBecomes, top_is, topped, all_from_top}
 use Rattle.lives.proofs.Wholes.{same_ledger}
-use Rattle.lives.proofs.Instructing.{few_words, known_within, inside_section}
+use Rattle.lives.proofs.Instructing.{top_changed, few_words, known_within, inside_section}
 use Rattle.lives.specs.Apart.{frames_of, section_of_operation}
 
 -- Only the meaning changes, on one CPU.
@@ -141,8 +141,9 @@ module _ (l : Ledger) (m : Meaning) (core : Core) (c t : ℕ) (inv : Invariant l
   calmed : (n : Meaning) (th : Thread) (frame : Frame) → PatienceBecomes m c 0 n → TopBecomes thread frame th → frame.operation ≡ operation → th.hand ≡ thread.hand → RestartPoint core.image frame
       → Calmed n (put_thread core t th)
   calmed n th frame told becomes same_operation hand point = record {
-    invariant = kept l l m n core c t th core.cpus core.next change;
-    restart = subst (λ x. AllByRecursion (RestartPoint core.image) (frames_of x)) (sym here) (all_from_top (RestartPoint core.image) th thread_later.whole more top_restarts thread_later.below);
+    invariant = top_changed l m core c t inv on some n th core.cpus core.next frame inv.eight_cpus (λ other differs. refl) refl (inv.holds c c_exists) refl (λ node ne. refl) becomes same_operation hand told.sections_stay
+        told.elsewhere (inl (point, told.there (omega (arith, c_exists, inv.limits.cpus))));
+    restart = subst (λ x. AllByRecursion (RestartPoint core.image) (frames_of x)) (sym (thread_written inv t_exists th)) (all_from_top (RestartPoint core.image) th thread_later.whole more top_restarts thread_later.below);
   }
     where
       thread_later : ThreadStands core.sizes core.image (l.waiting t) th
@@ -153,33 +154,6 @@ module _ (l : Ledger) (m : Meaning) (core : Core) (c t : ℕ) (inv : Invariant l
 
       top_restarts : RestartPoint core.image (top_frame th)
       top_restarts = subst (RestartPoint core.image) (sym (top_is thread th frame stands.whole some becomes)) point
-
-      here : thread_at (put_thread core t th) t ≡ th
-      here = thread_written inv t_exists th
-
-      standing : Standing (put_thread core t th) (n.patience c) c
-      standing =
-          restarting t (inv.current c ∙ on) (subst (λ (x : Thread). 0 < x.depth) (sym here) more) (subst (λ (x : Thread). RestartPoint core.image (top_frame x)) (sym here) top_restarts)
-          (told.there (omega (arith, c_exists, inv.limits.cpus)))
-
-      change : Change l l m n core c t th core.cpus core.next
-      change = record {
-        invariant = inv;
-        on = on;
-        eight_cpus = inv.eight_cpus;
-        cpus_else = λ other differs. refl;
-        same_current = refl;
-        ledger_else = same_ledger core.sizes.packets l t c;
-        holds = inv.holds c c_exists;
-        hand = hand ∙ inv.hands t t_exists;
-        nexts = refl;
-        next_else = λ node ne. refl;
-        thread = thread_later;
-        nodes = λ node. refl;
-        sections = told.sections_stay;
-        patience_else = told.elsewhere;
-        standing = standing;
-      }
 
   -- What becomes of a thread by the exclusion's answer: it is held, and then there is patience, or it is calmed.
   abbrev pub ByOutcome : Option Thread → Type 0 → (Thread → Type 0) → Type 0

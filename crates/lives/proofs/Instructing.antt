@@ -176,15 +176,13 @@ module _ (l : Ledger) (m : Meaning) (core : Core) (c t : ℕ) (inv : Invariant l
   abbrev pub Right : Meaning → Performed → Type 0
   Right n p = Becomes m p.notice n → BySettled p.settling (Quiet n p.core) (Settled n p.core)
 
-  -- A word that settles nothing.
-  went : (n : Meaning) (th : Thread) (cpus : List Cpu) (next : List ℕ) (frame : Frame) → length cpus ≡ 8 → ((other : ℕ) → (other ≡ c → ⊥) → get_or cpus other no_cpu ≡ cpu_at core other)
+  -- The thread's top frame becomes another, and the CPU's structures change as they may.
+  pub top_changed : (n : Meaning) (th : Thread) (cpus : List Cpu) (next : List ℕ) (frame : Frame) → length cpus ≡ 8 → ((other : ℕ) → (other ≡ c → ⊥) → get_or cpus other no_cpu ≡ cpu_at core other)
       → (get_or cpus c no_cpu).current ≡ (cpu_at core c).current → Holds core.sizes (l.counters c) (l.lists c) (l.rings c) (get_or cpus c no_cpu) next → length next ≡ length core.next
       → OnlyTheHandsNode (l.hands t) core.next next → TopBecomes thread frame th → frame.operation ≡ operation → th.hand ≡ thread.hand → ((d : ℕ) → n.section d ≡ m.section d)
       → ((other : ℕ) → (other ≡ c → ⊥) → n.patience other ≡ m.patience other)
-      → (RestartPoint core.image frame × (n.patience c ≡ 0)) ⊎ Midway core.sizes.packets core.image c (get_or cpus c no_cpu) next th → to_go core.image frame + 4 ≡ to_go core.image (top_frame thread)
-      → Quiet n (after_change l l m n core c t th cpus next)
-  went n th cpus next frame eight else_cpus same_current holds nexts next_else becomes same_operation hand sections patience_else where_to nearer =
-      record { invariant = kept l l m n core c t th cpus next change; still = still; patience_else = patience_else; nearer = ap (λ x. to_go core.image (top_frame x) + 4) here ∙ ap (λ f. to_go core.image f + 4) top ∙ nearer }
+      → (RestartPoint core.image frame × (n.patience c ≡ 0)) ⊎ Midway core.sizes.packets core.image c (get_or cpus c no_cpu) next th → Invariant l n (after_change l l m n core c t th cpus next)
+  top_changed n th cpus next frame eight else_cpus same_current holds nexts next_else becomes same_operation hand sections patience_else where_to = kept l l m n core c t th cpus next change
     where
       here : thread_at (after_change l l m n core c t th cpus next) t ≡ th
       here = thread_written inv t_exists th
@@ -224,6 +222,16 @@ module _ (l : Ledger) (m : Meaning) (core : Core) (c t : ℕ) (inv : Invariant l
         standing = standing;
       }
 
+  -- A word that settles nothing.
+  went : (n : Meaning) (th : Thread) (cpus : List Cpu) (next : List ℕ) (frame : Frame) → TopBecomes thread frame th → Invariant l n (after_change l l m n core c t th cpus next)
+      → ((other : ℕ) → (other ≡ c → ⊥) → n.patience other ≡ m.patience other) → to_go core.image frame + 4 ≡ to_go core.image (top_frame thread) → Quiet n (after_change l l m n core c t th cpus next)
+  went n th cpus next frame becomes invariant patience_else nearer = record {
+    invariant = invariant;
+    still = subst (λ (x : Thread). 0 < x.depth) (sym (thread_written inv t_exists th)) (omega (arith, becomes.depth));
+    patience_else = patience_else;
+    nearer = ap (λ x. to_go core.image (top_frame x) + 4) (thread_written inv t_exists th) ∙ ap (λ f. to_go core.image f + 4) (top_is thread th frame stands.whole some becomes) ∙ nearer;
+  }
+
   -- One that changes only the thread: the structures of CPU q are put back as they were.
   moved : (n : Meaning) (th : Thread) (q : ℕ) (frame : Frame) → TopBecomes thread frame th → frame.operation ≡ operation → th.hand ≡ thread.hand → ((d : ℕ) → n.section d ≡ m.section d)
       → ((other : ℕ) → (other ≡ c → ⊥) → n.patience other ≡ m.patience other)
@@ -231,7 +239,8 @@ module _ (l : Ledger) (m : Meaning) (core : Core) (c t : ℕ) (inv : Invariant l
       → Quiet n (after_change l l m n core c t th (set core.cpus q (cpu_at core q)) core.next)
   moved n th q frame becomes same_operation hand sections patience_else where_to nearer =
       subst (λ cpus. Quiet n (after_change l l m n core c t th cpus core.next)) (sym (set-get_or core.cpus q no_cpu))
-      (went n th core.cpus core.next frame inv.eight_cpus (λ other differs. refl) refl (inv.holds c c_exists) refl (λ node ne. refl) becomes same_operation hand sections patience_else where_to nearer)
+      (went n th core.cpus core.next frame becomes
+      (top_changed n th core.cpus core.next frame inv.eight_cpus (λ other differs. refl) refl (inv.holds c c_exists) refl (λ node ne. refl) becomes same_operation hand sections patience_else where_to) patience_else nearer)
 
   -- The instruction with the word at hand, on the structures of CPU q.
   abbrev effect_on : ℕ → Word → Effect
@@ -304,7 +313,8 @@ module _ (l : Ledger) (m : Meaning) (core : Core) (c t : ℕ) (inv : Invariant l
       → GoesOn core l c t thread (cpu_at core c) core.next operation i (step_at i) → PatienceBecomes m c (m.patience c - 1) n
       → Quiet n (after_change l l m n core c t (step_at i).thread (cpus_at i) (step_at i).next)
   goes_right n i at done g told =
-      went n (step_at i).thread (cpus_at i) (step_at i).next frame (length-set core.cpus c (step_at i).cpu ∙ inv.eight_cpus) (λ other differs. get_or-set_other core.cpus c other (step_at i).cpu no_cpu differs)
+      went n (step_at i).thread (cpus_at i) (step_at i).next frame becomes
+      (top_changed n (step_at i).thread (cpus_at i) (step_at i).next frame (length-set core.cpus c (step_at i).cpu ∙ inv.eight_cpus) (λ other differs. get_or-set_other core.cpus c other (step_at i).cpu no_cpu differs)
       (ap (λ (x : Cpu). x.current) (cpu_there i) ∙ g.current) (subst (λ x. Holds core.sizes (l.counters c) (l.lists c) (l.rings c) x (step_at i).next) (sym (cpu_there i)) g.holds) g.nexts
       (subst (λ h. OnlyTheHandsNode h core.next (step_at i).next) (inv.hands t t_exists) g.next_else) becomes refl g.hand told.sections_stay told.elsewhere
       (inr (record {
@@ -315,7 +325,7 @@ module _ (l : Ledger) (m : Meaning) (core : Core) (c t : ℕ) (inv : Invariant l
         known =
             subst (λ x. Known core.sizes.packets x (step_at i).next (step_at i).thread (top_frame (step_at i).thread).operation (suc i)) (sym (cpu_there i))
             (subst (λ (f : Frame). Known core.sizes.packets (step_at i).cpu (step_at i).next (step_at i).thread f.operation (suc i)) (sym top) g.known);
-      })) nearer
+      }))) told.elsewhere nearer
     where
       frame : Frame
       frame = frame_at (((top_frame thread).place + 4) % 2 ^ 64) (top_frame thread).armed
