@@ -1,5 +1,5 @@
 -- Disturbing the thread of a CPU: where it is not held it ends at a restart point, and all is kept.
-use Rattle.std.proofs.Common.{◌≡◌, ℕ, ◌+◌, ◌*◌, ◌<◌, ◌≤◌, cond, length, Some, None, Option, sym, refl, ap, ◌∙◌, subst, inl, inr, ⊎_elim, arith, get_or-set_same}
+use Rattle.std.proofs.Common.{◌≡◌, ℕ, ◌+◌, ◌*◌, ◌<◌, ◌≤◌, cond, length, Some, None, Option, sym, refl, ap, ◌∙◌, subst, inl, inr, ⊎_elim, arith}
 use Rattle.std.proofs.lemmas.Bool.{cases_lt, eq-eqb, ne_eqb}
 use Rattle.std.specs.List.{AllByRecursion}
 use Rattle.image.specs.declared.layout.Section.{Section}
@@ -12,15 +12,13 @@ use Rattle.model.specs.declared.state.Operation.{Operation}
 use Rattle.model.specs.declared.state.Frame.{Frame}
 use Rattle.model.specs.declared.state.Thread.{Thread}
 use Rattle.model.specs.declared.state.Core.{Core}
-use Rattle.model.specs.State.{no_thread, put_thread, thread_at, cpu_at, top_frame, descriptor_of_operation}
+use Rattle.model.specs.State.{put_thread, thread_at, cpu_at, top_frame, descriptor_of_operation}
 use Rattle.model.specs.Calls.{after_verdict}
 use Rattle.model.specs.Ledger.{Ledger}
 use Rattle.lives.proofs.Nodes.{here_or_else}
 use Rattle.lives.proofs.Midway.{words_of}
-use Rattle.lives.proofs.Standing.{RestartPoint, at_entry, at_abort, at_start, Midway, Standing, restarting, ThreadStands, Invariant, StandsThere, restarts_there, midway_there, stands_there, thread_written}
-use Rattle.lives.proofs.Keeping.{Change, kept}
+use Rattle.lives.proofs.Standing.{RestartPoint, at_entry, at_abort, at_start, Midway, Standing, ThreadStands, Invariant, StandsThere, restarts_there, midway_there, stands_there, thread_written}
 use Rattle.lives.proofs.Threads.{TopBecomes, top_is, topped, all_from_top}
-use Rattle.lives.proofs.Wholes.{same_ledger}
 use Rattle.lives.proofs.Instructing.{top_changed, few_words, known_within, inside_section}
 use Rattle.lives.specs.Apart.{frames_of, section_of_operation}
 

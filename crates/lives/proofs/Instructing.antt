@@ -1,5 +1,5 @@
 -- One instruction keeps what holds of every machine with a past, and brings the operation nearer to its end.
-use Rattle.std.proofs.Common.{◌≡◌, ℕ, zero, suc, ◌+◌, ◌-◌, ◌*◌, ◌%◌, ◌^◌, ◌<◌, ◌≤◌, cond, ◌&&◌, eqb, leb, ◌⊎◌, List, [], ◌∷◌, map, length, get_or, set, Some, None, Option, sym, refl, ap, ◌∙◌, subst, inl, inr, ⊎_elim, mod-eq_of_lt, arith, length-set, get_or-set_other, get_or-set_same}
+use Rattle.std.proofs.Common.{◌≡◌, ℕ, zero, suc, ◌+◌, ◌-◌, ◌*◌, ◌%◌, ◌^◌, ◌<◌, ◌≤◌, cond, ◌&&◌, eqb, leb, ◌⊎◌, List, [], ◌∷◌, map, length, get_or, set, Some, None, Option, sym, refl, ap, ◌∙◌, subst, inl, inr, ⊎_elim, mod-eq_of_lt, arith, length-set, get_or-set_other}
 use lib.Seq.{set-get_or}
 use Rattle.std.proofs.lemmas.Bool.{cond-false, eq-eqb, ne_eqb, cases_lt, and_parts, leb-true, true_from_ne_false}
 use Rattle.std.specs.List.{AllByRecursion}
@@ -17,7 +17,7 @@ use Rattle.model.specs.declared.state.Cpu.{Cpu}
 use Rattle.model.specs.declared.state.Image.{Image}
 use Rattle.model.specs.declared.state.Core.{Core}
 use Rattle.model.specs.declared.state.Settling.{Settling}
-use Rattle.model.specs.State.{no_cpu, no_thread, core_next, put_cpu, put_thread, thread_at, cpu_at, top_frame, dropped, descriptor_of_operation}
+use Rattle.model.specs.State.{no_cpu, core_next, put_cpu, put_thread, thread_at, cpu_at, top_frame, dropped, descriptor_of_operation}
 use Rattle.model.specs.Words.{Effect, Performed, progress, notice_of, settled_as, performed}
 use Rattle.model.specs.Ledger.{Ledger, Waiting, Fed, updated, with_waiting, does_whole, settle_top, settle_on}
 use Rattle.model.specs.Claims.{among, found}
