@@ -1,5 +1,5 @@
 -- A CPU gets another thread or none, and a thread gets another operation.
-use Rattle.std.proofs.Common.{◌≡◌, ℕ, ◌<◌, ◌≤◌, ◌⊎◌, ◌∷◌, Some, None, Option, sym, refl, ap, ◌∙◌, subst, inl, inr, ⊎_elim, arith, length-set, get_or-set_other, get_or-set_same}
+use Rattle.std.proofs.Common.{◌≡◌, ℕ, ◌<◌, ◌≤◌, ◌⊎◌, ◌∷◌, Some, None, Option, sym, refl, ap, ◌∙◌, subst, inl, inr, ⊎_elim, arith, length-set, get_or-set_other}
 use Rattle.std.proofs.lemmas.Bool.{cases_eq, cases_lt}
 use Rattle.std.proofs.lemmas.Option.{none-some, same_Some}
 use Rattle.std.specs.List.{AllByRecursion}
@@ -11,10 +11,10 @@ use Rattle.model.specs.declared.state.Core.{Core}
 use Rattle.model.specs.State.{no_cpu, no_thread, cpu_current, put_thread, put_cpu, thread_at, cpu_at, top_frame, pushed}
 use Rattle.model.specs.Ledger.{Ledger, Waiting, updated, with_waiting}
 use Rattle.model.specs.Ledger.{with_current as ledger-current}
-use Rattle.lives.proofs.Nodes.{updated_here, updated_else}
+use Rattle.lives.proofs.Nodes.{here_or_else, updated_here, updated_else}
 use Rattle.lives.proofs.Stacks.{Whole}
 use Rattle.lives.proofs.Midway.{Holds, Valid}
-use Rattle.lives.proofs.Standing.{RestartPoint, at_entry, Midway, Standing, idle, resting, restarting, midway, ThreadStands, Invariant}
+use Rattle.lives.proofs.Standing.{RestartPoint, at_entry, Midway, Standing, idle, resting, restarting, midway, ThreadStands, Invariant, cpu_written, thread_written}
 use Rattle.lives.proofs.Threads.{all_top, pushed_stands, pushed_frames}
 use Rattle.lives.specs.Apart.{begun, frames_of}
 
@@ -38,7 +38,7 @@ module _ (l : Ledger) (m : Meaning) (core : Core) (c : ℕ) (o : Option ℕ) (in
   later = put_cpu core c cpu
 
   cpu_here : cpu_at later c ≡ cpu
-  cpu_here = get_or-set_same core.cpus c cpu no_cpu (omega (arith, exists, inv.limits.cpus, inv.eight_cpus))
+  cpu_here = cpu_written inv exists cpu
 
   cpu_else : (other : ℕ) → (other ≡ c → ⊥) → cpu_at later other ≡ cpu_at core other
   cpu_else other differs = get_or-set_other core.cpus c other cpu no_cpu differs
@@ -77,13 +77,12 @@ module _ (l : Ledger) (m : Meaning) (core : Core) (c : ℕ) (o : Option ℕ) (in
   off_cpu : (s : ℕ) → s < core.sizes.threads → ((other : ℕ) → k.current other ≡ Some s → ⊥) → (before : Option ℕ) → l.current c ≡ before → AllByRecursion (RestartPoint core.image) (frames_of (thread_at core s))
   off_cpu s below off None is =
       inv.off_cpu s below
-      (λ other on. ⊎_elim (λ (same : other ≡ c). absurd (none-some _ (sym is ∙ ap l.current (sym same) ∙ on))) (λ (differs : other ≡ c → ⊥). off other (now_else other differs ∙ on)) (cases_eq other c))
+      (here_or_else (λ x. l.current x ≡ Some s → ⊥) c (λ on. none-some s (sym is ∙ on)) (λ x differs on. off x (now_else x differs ∙ on)))
   off_cpu s below off (Some r) is =
       ⊎_elim (λ (same : r ≡ s). restart s (is ∙ ap Some same))
       (λ (differs : r ≡ s → ⊥).
       inv.off_cpu s below
-      (λ other on.
-      ⊎_elim (λ (same : other ≡ c). differs (same_Some _ _ (sym is ∙ ap l.current (sym same) ∙ on))) (λ (apart : other ≡ c → ⊥). off other (now_else other apart ∙ on)) (cases_eq other c)))
+      (here_or_else (λ x. l.current x ≡ Some s → ⊥) c (λ on. differs (same_Some _ _ (sym is ∙ on))) (λ x apart on. off x (now_else x apart ∙ on))))
       (cases_eq r s)
 
   -- Where a thread is now, it was before, or it is the new one.
@@ -108,24 +107,19 @@ module _ (l : Ledger) (m : Meaning) (core : Core) (c : ℕ) (o : Option ℕ) (in
     eight_cpus = length-set core.cpus c cpu ∙ inv.eight_cpus;
     sixteen_threads = inv.sixteen_threads;
     next_words = inv.next_words;
-    holds = λ other below.
-        ⊎_elim
-        (λ (same : other ≡ c).
-        subst (λ x. Holds core.sizes (l.counters x) (l.lists x) (l.rings x) (cpu_at later x) core.next) (sym same)
-        (subst (λ y. Holds core.sizes (l.counters c) (l.lists c) (l.rings c) y core.next) (sym cpu_here) holds_here))
-        (λ (differs : other ≡ c → ⊥). subst (λ y. Holds core.sizes (l.counters other) (l.lists other) (l.rings other) y core.next) (sym (cpu_else other differs)) (inv.holds other below)) (cases_eq other c);
+    holds = here_or_else (λ x. x < core.sizes.cpus → Holds core.sizes (l.counters x) (l.lists x) (l.rings x) (cpu_at later x) core.next) c
+        (λ below. subst (λ y. Holds core.sizes (l.counters c) (l.lists c) (l.rings c) y core.next) (sym cpu_here) holds_here)
+        (λ x differs below. subst (λ y. Holds core.sizes (l.counters x) (l.lists x) (l.rings x) y core.next) (sym (cpu_else x differs)) (inv.holds x below));
     hands = inv.hands;
-    current = λ other.
-        ⊎_elim (λ (same : other ≡ c). ap (λ x. (cpu_at later x).current) same ∙ ap (λ (y : Cpu). y.current) cpu_here ∙ sym now_here ∙ ap k.current (sym same))
-        (λ (differs : other ≡ c → ⊥). ap (λ (y : Cpu). y.current) (cpu_else other differs) ∙ inv.current other ∙ sym (now_else other differs)) (cases_eq other c);
+    current = here_or_else (λ x. (cpu_at later x).current ≡ k.current x) c (ap (λ (y : Cpu). y.current) cpu_here ∙ sym now_here)
+        (λ x differs. ap (λ (y : Cpu). y.current) (cpu_else x differs) ∙ inv.current x ∙ sym (now_else x differs));
     current_exists = λ other t on.
         ⊎_elim (λ (p : (other ≡ c) × (o ≡ Some t)). (subst (λ x. x < core.sizes.cpus) (sym p.0) exists, (free t p.1).0)) (λ (p : (other ≡ c → ⊥) × (l.current other ≡ Some t)). inv.current_exists other t p.1) (placed other t on);
     on_one_cpu = λ one other t on also. one_place one other t (placed one t on) (placed other t also);
     threads = inv.threads;
     nowhere_else = inv.nowhere_else;
     nodes = inv.nodes;
-    standing = λ other below.
-        ⊎_elim (λ (same : other ≡ c). subst (λ x. Standing later (m.patience x) x) (sym same) (standing_here o refl)) (λ (differs : other ≡ c → ⊥). standing_else other differs (inv.standing other below)) (cases_eq other c);
+    standing = here_or_else (λ x. x < core.sizes.cpus → Standing later (m.patience x) x) c (λ below. standing_here o refl) (λ x differs below. standing_else x differs (inv.standing x below));
     off_cpu = λ s below off. off_cpu s below off (l.current c) refl;
   }
 
@@ -145,7 +139,7 @@ module _ (l : Ledger) (m : Meaning) (core : Core) (t number : ℕ) (operation : 
   after = put_thread core t thread
 
   thread_here : thread_at after t ≡ thread
-  thread_here = get_or-set_same core.threads t thread no_thread (omega (arith, exists, inv.limits.threads, inv.sixteen_threads))
+  thread_here = thread_written inv exists thread
 
   thread_else : (s : ℕ) → (s ≡ t → ⊥) → thread_at after s ≡ thread_at core s
   thread_else s differs = get_or-set_other core.threads t s thread no_thread differs
@@ -189,27 +183,22 @@ module _ (l : Ledger) (m : Meaning) (core : Core) (t number : ℕ) (operation : 
     sixteen_threads = length-set core.threads t thread ∙ inv.sixteen_threads;
     next_words = inv.next_words;
     holds = inv.holds;
-    hands = λ s below.
-        ⊎_elim (λ (same : s ≡ t). ap (λ x. (thread_at after x).hand) same ∙ ap (λ (x : Thread). x.hand) thread_here ∙ inv.hands t exists ∙ ap l.hands (sym same))
-        (λ (differs : s ≡ t → ⊥). ap (λ (x : Thread). x.hand) (thread_else s differs) ∙ inv.hands s below) (cases_eq s t);
+    hands = here_or_else (λ s. s < core.sizes.threads → (thread_at after s).hand ≡ l.hands s) t (λ below. ap (λ (x : Thread). x.hand) thread_here ∙ inv.hands t exists)
+        (λ s differs below. ap (λ (x : Thread). x.hand) (thread_else s differs) ∙ inv.hands s below);
     current = inv.current;
     current_exists = inv.current_exists;
     on_one_cpu = inv.on_one_cpu;
-    threads = λ s below.
-        ⊎_elim
-        (λ (same : s ≡ t).
-        subst (λ x. ThreadStands core.sizes core.image (more.waiting x) (thread_at after x)) (sym same)
-        (subst (λ ws. ThreadStands core.sizes core.image ws (thread_at after t)) (sym (updated_here l.waiting t (top ∷ l.waiting t)))
-        (subst (ThreadStands core.sizes core.image (top ∷ l.waiting t)) (sym thread_here) stands)))
-        (λ (differs : s ≡ t → ⊥).
+    threads = here_or_else (λ s. s < core.sizes.threads → ThreadStands core.sizes core.image (more.waiting s) (thread_at after s)) t
+        (λ below.
+        subst (λ ws. ThreadStands core.sizes core.image ws (thread_at after t)) (sym (updated_here l.waiting t (top ∷ l.waiting t)))
+        (subst (ThreadStands core.sizes core.image (top ∷ l.waiting t)) (sym thread_here) stands))
+        (λ s differs below.
         subst (λ ws. ThreadStands core.sizes core.image ws (thread_at after s)) (sym (updated_else l.waiting t (top ∷ l.waiting t) s differs))
-        (subst (ThreadStands core.sizes core.image (l.waiting s)) (sym (thread_else s differs)) (inv.threads s below))) (cases_eq s t);
+        (subst (ThreadStands core.sizes core.image (l.waiting s)) (sym (thread_else s differs)) (inv.threads s below)));
     nowhere_else = λ s beyond. updated_else l.waiting t (top ∷ l.waiting t) s (λ same. omega (arith, exists)) ∙ inv.nowhere_else s beyond;
     nodes = inv.nodes;
     standing = λ c below. standing_now c (inv.standing c below);
-    off_cpu = λ s below off.
-        ⊎_elim
-        (λ (same : s ≡ t).
-        subst (λ x. AllByRecursion (RestartPoint core.image) (frames_of (thread_at after x))) (sym same) (subst (λ x. AllByRecursion (RestartPoint core.image) (frames_of x)) (sym thread_here) all_restart))
-        (λ (differs : s ≡ t → ⊥). subst (λ x. AllByRecursion (RestartPoint core.image) (frames_of x)) (sym (thread_else s differs)) (inv.off_cpu s below off)) (cases_eq s t);
+    off_cpu = here_or_else (λ s. s < core.sizes.threads → ((c : ℕ) → l.current c ≡ Some s → ⊥) → AllByRecursion (RestartPoint core.image) (frames_of (thread_at after s))) t
+        (λ below off. subst (λ x. AllByRecursion (RestartPoint core.image) (frames_of x)) (sym thread_here) all_restart)
+        (λ s differs below off. subst (λ x. AllByRecursion (RestartPoint core.image) (frames_of x)) (sym (thread_else s differs)) (inv.off_cpu s below off));
   }

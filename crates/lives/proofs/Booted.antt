@@ -1,8 +1,8 @@
 -- A machine that has just booted: all that holds of every machine with a past holds of it.
-use Rattle.std.proofs.Common.{◌≡◌, ℕ, zero, suc, ◌-◌, ◌<◌, ◌≤◌, Bool, true, false, cond, ◌&&◌, eqb, ltb, leb, ◌⊎◌, List, [], ◌∷◌, ◌++◌, map, length, get_or, replicate, Some, None, Ok, Option, sym, refl, ap, ◌∙◌, subst, inl, inr, ⊎_elim, arith}
+use Rattle.std.proofs.Common.{◌≡◌, ℕ, zero, suc, ◌-◌, ◌<◌, ◌≤◌, true, cond, ◌&&◌, eqb, ltb, leb, ◌⊎◌, List, [], ◌∷◌, ◌++◌, map, length, get_or, Some, None, Ok, sym, refl, ap, ◌∙◌, subst, inl, inr, ⊎_elim, arith}
 use lib.ListN.{get_or-replicate}
 use lib.Seq.{take-append_seam}
-use Rattle.std.proofs.lemmas.Bool.{agree_below_at, eqb-true, ltb-true, ne_eqb, lt-leb, cases_eq, and_parts}
+use Rattle.std.proofs.lemmas.Bool.{agree_below_at, and_right, cond-false, eqb-true, ltb-true, ne_eqb, lt-leb, cases_eq, and_parts}
 use Rattle.std.specs.List.{AllByRecursion}
 use Rattle.words.specs.declared.Kind.{Kind}
 use Rattle.words.specs.declared.Kind.TheVariants as kind
@@ -76,11 +76,7 @@ module _ (table : List ℕ) where
   at_kind kind.Take = refl
 
   no_such_section : (d : ℕ) → 5 < d → there d ≡ no_section
-  no_such_section d past = ap (λ b. cond (leb 1 d && b) (get_or (sections_of table) (d - 1) no_section) no_section) (lt-leb d 5 past) ∙ either (leb 1 d)
-    where
-      either : (b : Bool) → cond (b && false) (get_or (sections_of table) (d - 1) no_section) no_section ≡ no_section
-      either true = refl
-      either false = refl
+  no_such_section d past = cond-false (leb 1 d && leb d 5) (get_or (sections_of table) (d - 1) no_section) no_section (and_right (leb 1 d) (leb d 5) (lt-leb d 5 past))
 
   -- What lies inside a section by its number lies inside the section of a kind.
   inside_kind : (d address : ℕ) → Inside (there d) address → (kind : Kind) × (d ≡ kind_number kind) × Inside (section_of table kind) address

@@ -1,6 +1,6 @@
 -- The parts of calls: checks that pass or refuse, operations, the CPU that has a thread, and disturbing a CPU's thread.
-use Rattle.std.proofs.Common.{◌≡◌, ℕ, zero, suc, ◌-◌, ◌<◌, ◌≤◌, Bool, true, false, cond, eqb, List, [], ◌∷◌, reverse, get_or, take, Some, None, Err, MatchBool, Option, Result, sym, refl, ap, ◌∙◌, subst, ⊎_elim, arith, get_or-set_other, get_or-set_same}
-use Rattle.std.proofs.lemmas.Bool.{cases_eq, cases_lt, eqb-true, eqb-false, ltb-true}
+use Rattle.std.proofs.Common.{◌≡◌, ℕ, zero, suc, ◌-◌, ◌<◌, ◌≤◌, Bool, true, false, cond, eqb, List, [], ◌∷◌, reverse, get_or, take, Some, None, Err, MatchBool, Option, Result, sym, refl, ap, ◌∙◌, subst, ⊎_elim, arith, get_or-set_other}
+use Rattle.std.proofs.lemmas.Bool.{cases_lt, eqb-true, eqb-false, ltb-true}
 use Rattle.std.proofs.lemmas.Option.{cond_some, same_Some}
 use Rattle.std.specs.List.{AllByRecursion}
 use Rattle.faults.specs.declared.Fault.{Fault}
@@ -24,9 +24,9 @@ use Rattle.model.specs.State.{no_cpu, no_thread, put_thread, thread_at, cpu_at, 
 use Rattle.model.specs.Calls.{by_kind, operation_of, cpu_of, after_verdict, with_thread, Disturbs, DisturbsCurrent}
 use Rattle.model.specs.Ledger.{Ledger, updated}
 use Rattle.model.specs.Claims.{is_thread, HasMeaning}
-use Rattle.lives.proofs.Nodes.{updated_here, updated_else}
+use Rattle.lives.proofs.Nodes.{here_or_else, updated_here, updated_else}
 use Rattle.lives.proofs.Midway.{Valid}
-use Rattle.lives.proofs.Standing.{RestartPoint, Standing, idle, resting, Invariant}
+use Rattle.lives.proofs.Standing.{RestartPoint, Standing, idle, resting, Invariant, thread_written}
 use Rattle.lives.proofs.Disturbing.{meaning_changed, Calmed, ByOutcome, by_verdict}
 use Rattle.lives.specs.Apart.{frames_of, cpu_among}
 
@@ -133,9 +133,6 @@ module _ {E : Type 0} (meaning : E → Meaning) (told : E → Notice → E → T
     t_exists : t < m.0.sizes.threads
     t_exists = (inv.current_exists c t on).1
 
-    thread_there : (th : Thread) → thread_at (put_thread m.0 t th) t ≡ th
-    thread_there th = get_or-set_same m.0.threads t th no_thread (omega (arith, t_exists, inv.limits.threads, inv.sixteen_threads))
-
     verdict_depth : (v : Verdict) (th : Thread) → after_verdict m.0 (thread_at m.0 t) v ≡ Some th → th.depth ≡ (thread_at m.0 t).depth
     verdict_depth verdict.Outside th is = sym (ap (λ (x : Thread). x.depth) (same_Some _ _ is))
     verdict_depth verdict.Held th is = cc
@@ -165,11 +162,8 @@ module _ {E : Type 0} (meaning : E → Meaning) (told : E → Notice → E → T
           invariant = calmed.invariant;
           restart = λ s there. subst (λ x. AllByRecursion (RestartPoint m.0.image) (frames_of (thread_at (put_thread m.0 t th) x))) (same_Some _ _ (sym on ∙ there)) calmed.restart;
           threads_else = λ s differs. get_or-set_other m.0.threads t s th no_thread (λ same. differs (on ∙ ap Some (sym same)));
-          depths = λ s.
-              ⊎_elim
-              (λ (same : s ≡ t).
-              ap (λ x. (thread_at (put_thread m.0 t th) x).depth) same ∙ ap (λ (x : Thread). x.depth) (thread_there th) ∙ verdict_depth v th is ∙ ap (λ x. (thread_at m.0 x).depth) (sym same))
-              (λ (differs : s ≡ t → ⊥). ap (λ (x : Thread). x.depth) (get_or-set_other m.0.threads t s th no_thread differs)) (cases_eq s t);
+          depths = here_or_else (λ s. (thread_at (put_thread m.0 t th) s).depth ≡ (thread_at m.0 s).depth) t (ap (λ (x : Thread). x.depth) (thread_written inv t_exists th) ∙ verdict_depth v th is)
+              (λ s differs. ap (λ (x : Thread). x.depth) (get_or-set_other m.0.threads t s th no_thread differs));
           same_image = refl;
           same_sizes = refl;
         }

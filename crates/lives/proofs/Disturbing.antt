@@ -1,7 +1,6 @@
 -- Disturbing the thread of a CPU: where it is not held it ends at a restart point, and all is kept.
-use Rattle.std.proofs.Common.{◌≡◌, ℕ, ◌+◌, ◌*◌, ◌<◌, ◌≤◌, cond, length, Some, None, Option, sym, refl, ap, ◌∙◌, subst, inl, inr, ⊎_elim, arith, get_or-set_same}
-use Rattle.std.proofs.lemmas.Bool.{cases_eq, cases_lt, eq-eqb, ne_eqb}
-use Rattle.std.proofs.lemmas.Option.{same_Some}
+use Rattle.std.proofs.Common.{◌≡◌, ℕ, ◌+◌, ◌*◌, ◌<◌, ◌≤◌, cond, length, Some, None, Option, sym, refl, ap, ◌∙◌, subst, inl, inr, ⊎_elim, arith}
+use Rattle.std.proofs.lemmas.Bool.{cases_lt, eq-eqb, ne_eqb}
 use Rattle.std.specs.List.{AllByRecursion}
 use Rattle.image.specs.declared.layout.Section.{Section}
 use Rattle.image.specs.Layout.{Inside}
@@ -13,15 +12,14 @@ use Rattle.model.specs.declared.state.Operation.{Operation}
 use Rattle.model.specs.declared.state.Frame.{Frame}
 use Rattle.model.specs.declared.state.Thread.{Thread}
 use Rattle.model.specs.declared.state.Core.{Core}
-use Rattle.model.specs.State.{no_thread, put_thread, thread_at, cpu_at, top_frame, descriptor_of_operation}
+use Rattle.model.specs.State.{put_thread, thread_at, cpu_at, top_frame, descriptor_of_operation}
 use Rattle.model.specs.Calls.{after_verdict}
 use Rattle.model.specs.Ledger.{Ledger}
+use Rattle.lives.proofs.Nodes.{here_or_else}
 use Rattle.lives.proofs.Midway.{words_of}
-use Rattle.lives.proofs.Standing.{RestartPoint, at_entry, at_abort, at_start, Midway, Standing, restarting, ThreadStands, Invariant, StandsThere, restarts_there, midway_there, stands_there}
-use Rattle.lives.proofs.Keeping.{Change, kept}
+use Rattle.lives.proofs.Standing.{RestartPoint, at_entry, at_abort, at_start, Midway, Standing, ThreadStands, Invariant, StandsThere, restarts_there, midway_there, stands_there, thread_written}
 use Rattle.lives.proofs.Threads.{TopBecomes, top_is, topped, all_from_top}
-use Rattle.lives.proofs.Wholes.{same_ledger}
-use Rattle.lives.proofs.Instructing.{few_words, known_within, inside_section}
+use Rattle.lives.proofs.Instructing.{top_changed, few_words, known_within, inside_section}
 use Rattle.lives.specs.Apart.{frames_of, section_of_operation}
 
 -- Only the meaning changes, on one CPU.
@@ -42,9 +40,8 @@ meaning_changed l m n core c inv sections patience_else standing = record {
   threads = inv.threads;
   nowhere_else = inv.nowhere_else;
   nodes = inv.nodes;
-  standing = λ other exists.
-      ⊎_elim (λ (same : other ≡ c). subst (λ x. Standing core (n.patience x) x) (sym same) standing)
-      (λ (differs : other ≡ c → ⊥). subst (λ p. Standing core p other) (sym (patience_else other differs)) (inv.standing other exists)) (cases_eq other c);
+  standing = here_or_else (λ x. x < core.sizes.cpus → Standing core (n.patience x) x) c (λ exists. standing)
+      (λ x differs exists. subst (λ p. Standing core p x) (sym (patience_else x differs)) (inv.standing x exists));
   off_cpu = inv.off_cpu;
 }
 
@@ -142,8 +139,9 @@ module _ (l : Ledger) (m : Meaning) (core : Core) (c t : ℕ) (inv : Invariant l
   calmed : (n : Meaning) (th : Thread) (frame : Frame) → PatienceBecomes m c 0 n → TopBecomes thread frame th → frame.operation ≡ operation → th.hand ≡ thread.hand → RestartPoint core.image frame
       → Calmed n (put_thread core t th)
   calmed n th frame told becomes same_operation hand point = record {
-    invariant = kept l l m n core c t th core.cpus core.next change;
-    restart = subst (λ x. AllByRecursion (RestartPoint core.image) (frames_of x)) (sym here) (all_from_top (RestartPoint core.image) th thread_later.whole more top_restarts thread_later.below);
+    invariant = top_changed l m core c t inv on some n th core.cpus core.next frame inv.eight_cpus (λ other differs. refl) refl (inv.holds c c_exists) refl (λ node ne. refl) becomes same_operation hand told.sections_stay
+        told.elsewhere (inl (point, told.there (omega (arith, c_exists, inv.limits.cpus))));
+    restart = subst (λ x. AllByRecursion (RestartPoint core.image) (frames_of x)) (sym (thread_written inv t_exists th)) (all_from_top (RestartPoint core.image) th thread_later.whole more top_restarts thread_later.below);
   }
     where
       thread_later : ThreadStands core.sizes core.image (l.waiting t) th
@@ -154,33 +152,6 @@ module _ (l : Ledger) (m : Meaning) (core : Core) (c t : ℕ) (inv : Invariant l
 
       top_restarts : RestartPoint core.image (top_frame th)
       top_restarts = subst (RestartPoint core.image) (sym (top_is thread th frame stands.whole some becomes)) point
-
-      here : thread_at (put_thread core t th) t ≡ th
-      here = get_or-set_same core.threads t th no_thread (omega (arith, t_exists, inv.limits.threads, inv.sixteen_threads))
-
-      standing : Standing (put_thread core t th) (n.patience c) c
-      standing =
-          restarting t (inv.current c ∙ on) (subst (λ (x : Thread). 0 < x.depth) (sym here) more) (subst (λ (x : Thread). RestartPoint core.image (top_frame x)) (sym here) top_restarts)
-          (told.there (omega (arith, c_exists, inv.limits.cpus)))
-
-      change : Change l l m n core c t th core.cpus core.next
-      change = record {
-        invariant = inv;
-        on = on;
-        eight_cpus = inv.eight_cpus;
-        cpus_else = λ other differs. refl;
-        same_current = refl;
-        ledger_else = same_ledger core.sizes.packets l t c;
-        holds = inv.holds c c_exists;
-        hand = hand ∙ inv.hands t t_exists;
-        nexts = refl;
-        next_else = λ node ne. refl;
-        thread = thread_later;
-        nodes = λ node. refl;
-        sections = told.sections_stay;
-        patience_else = told.elsewhere;
-        standing = standing;
-      }
 
   -- What becomes of a thread by the exclusion's answer: it is held, and then there is patience, or it is calmed.
   abbrev pub ByOutcome : Option Thread → Type 0 → (Thread → Type 0) → Type 0

@@ -17,7 +17,7 @@ use Rattle.model.specs.declared.state.Operation.{Operation}
 use Rattle.model.specs.declared.state.Core.{Core}
 use Rattle.model.specs.declared.state.Settling.{Settling}
 use Rattle.model.specs.State.{thread_at, cpu_at, top_frame}
-use Rattle.model.specs.Calls.{ByChecks, Stopped, ByCurrent, ByOperation, Granted, refused, ran, advanced, operation_of, has_cpu, has_thread, is_operation, has_room, cpu_of, not_current, has_current, has_work, DisturbsCurrent, Performs, Runs, Signals, Step}
+use Rattle.model.specs.Calls.{ByChecks, Stopped, Granted, refused, ran, advanced, operation_of, has_cpu, has_thread, is_operation, has_room, cpu_of, not_current, has_current, has_work, DisturbsCurrent, Performs, Runs, Signals, Step}
 use Rattle.model.specs.Ledger.{Ledger, new_ledger}
 use Rattle.model.specs.Life.{Event, ledger, Life, booted, lived}
 use Rattle.model.specs.Claims.{HasMeaning, StructuresAgree, Mark, instruction, held, about, trace, NothingGranted, Settles, ByThread, Faithful}
@@ -96,12 +96,12 @@ module _ {E : Type 0} (meaning : E → Meaning) (told : E → Notice → E → T
     held_where (call.Run cpu) k step c about_it =
         not_by_checks (has_cpu m.0 cpu ∷ has_current m.0 cpu ∷ has_work m.0 cpu ∷ []) k _ c (refl, (refl, (refl, tt)))
         (λ passed d.
-        by_current told answers (cpu_at m.0 cpu).current (λ t. (settling : Option Settling) × (refused fault ≡ ran settling) × Performs told answers m cpu t settling k) (HeldOn c) d (λ t p. cc)) _ refl step
+        by_current told answers (cpu_at m.0 cpu).current (λ t. (settling : Option Settling) × (refused fault ≡ ran settling) × Performs told answers m cpu t settling k) (HeldOn c) d (λ t is p. cc)) _ refl step
     held_where (call.Advance cpu n) k step c about_it =
         not_by_checks (has_cpu m.0 cpu ∷ has_current m.0 cpu ∷ has_work m.0 cpu ∷ []) k _ c (refl, (refl, (refl, tt)))
         (λ passed d.
         by_current told answers (cpu_at m.0 cpu).current (λ t. (count : ℕ) × (settling : Option Settling) × (refused fault ≡ advanced count settling) × Stopped told answers n count settling × Runs told answers cpu t count settling m k) (HeldOn c) d
-        (λ t p. cc)) _ refl step
+        (λ t is p. cc)) _ refl step
     held_where (call.Switch cpu t) k step c about_it =
         not_by_checks (has_cpu m.0 cpu ∷ has_thread m.0 t ∷ not_current m.0 t ∷ []) k (Changes cpu (Some t) k) c (refl, (refl, (refl, tt)))
         (λ passed d.
@@ -120,7 +120,7 @@ module _ {E : Type 0} (meaning : E → Meaning) (told : E → Notice → E → T
         not_by_checks (has_thread m.0 t ∷ is_operation m.0 raw ∷ has_room m.0 t ∷ []) k _ c (refl, (refl, (refl, tt)))
         (λ passed d.
         by_operation told answers (operation_of m.0.sizes raw) (λ operation. Signals told answers m t operation (cpu_of m.0 t) (refused fault) k) (HeldOn c) d
-        (λ operation s. signals_not t operation c (is_there m.0 t (l.current c) about_it) k (cpu_of m.0 t) refl s)) _ refl step
+        (λ operation is s. signals_not t operation c (is_there m.0 t (l.current c) about_it) k (cpu_of m.0 t) refl s)) _ refl step
 
   -- All claims, of a machine with a past.
   module _ (past : List Event) (m : Core × E) (so : LivedWell meaning told answers has m.0.sizes past m) where

@@ -1,6 +1,6 @@
 -- Calls that are granted on a CPU, held there, or only accepted: every CPU keeps its pace.
-use Rattle.std.proofs.Common.{◌≡◌, ℕ, ◌<◌, true, false, List, [], ◌∷◌, Some, None, Option, sym, refl, ap, ◌∙◌, subst, ⊎_elim, arith}
-use Rattle.std.proofs.lemmas.Bool.{cases_eq, eq-eqb, ne_eqb, eqb-true}
+use Rattle.std.proofs.Common.{◌≡◌, ℕ, ◌<◌, true, false, List, [], ◌∷◌, Some, None, Option, sym, refl, ap, ◌∙◌, ⊎_elim}
+use Rattle.std.proofs.lemmas.Bool.{cases_eq, eq-eqb, ne_eqb}
 use Rattle.std.proofs.lemmas.Option.{same_Some}
 use Rattle.calls.specs.declared.Call.{Call}
 use Rattle.exclusion.specs.Meaning.{Meaning}
@@ -10,7 +10,7 @@ use Rattle.model.specs.Ledger.{Ledger}
 use Rattle.model.specs.Claims.{is_thread, Mark, granted, held, about}
 use Rattle.lives.proofs.Standing.{Invariant}
 use Rattle.lives.proofs.Pacing.{Paced, untouched, paced_anew, paced_held, paced_enlisted}
-use Rattle.lives.proofs.Running.{Well, noted, noted_here, noted_else}
+use Rattle.lives.proofs.Running.{Well, noted, noted_each}
 
 module _ {E : Type 0} (meaning : E → Meaning) (l : Ledger) (marks : ℕ → List Mark) (m : Core × E) (well : Well meaning l marks m) where
   -- Granted on a CPU: only its thread and its patience change.
@@ -19,28 +19,17 @@ module _ {E : Type 0} (meaning : E → Meaning) (l : Ledger) (marks : ℕ → Li
       → ((x s : ℕ) → (x ≡ c → ⊥) → l.current x ≡ Some s → thread_at later.0 s ≡ thread_at m.0 s) → Well meaning k (noted c (granted ∷ []) marks) later
   granted_well k later c image inv calm patience current threads = record {
     invariant = inv;
-    paced = λ x.
-        ⊎_elim
-        (λ (same : x ≡ c).
-        subst (λ y. Paced k (meaning later.1) later.0 y (noted c (granted ∷ []) marks y)) (sym same)
-        (subst (Paced k (meaning later.1) later.0 c) (sym (noted_here c (granted ∷ []) marks))
-        (paced_anew l k (meaning later.1) later.0 c granted (marks c) (well.paced c).in_eight (well.paced c).in_five refl refl tt inv calm)))
-        (λ (differs : x ≡ c → ⊥).
-        subst (Paced k (meaning later.1) later.0 x) (sym (noted_else c (granted ∷ []) marks x differs))
-        (untouched l k (meaning m.1) (meaning later.1) m.0 later.0 x (marks x) image (current x differs) (λ s there. threads x s differs there) (patience x differs) (well.paced x))) (cases_eq x c);
+    paced = noted_each (Paced k (meaning later.1) later.0) c (granted ∷ []) marks
+        (paced_anew l k (meaning later.1) later.0 c granted (marks c) (well.paced c).in_eight (well.paced c).in_five refl refl tt inv calm)
+        (λ x differs. untouched l k (meaning m.1) (meaning later.1) m.0 later.0 x (marks x) image (current x differs) (λ s there. threads x s differs there) (patience x differs) (well.paced x));
   }
 
   -- Held on a CPU.
   pub held_well : (call : Call) (c t : ℕ) → l.current c ≡ Some t → 0 < (thread_at m.0 t).depth → 0 < (meaning m.1).patience c → about l c call ≡ true → Well meaning l (noted c (held call ∷ []) marks) m
   held_well call c t on some patient concerns = record {
     invariant = well.invariant;
-    paced = λ x.
-        ⊎_elim
-        (λ (same : x ≡ c).
-        subst (λ y. Paced l (meaning m.1) m.0 y (noted c (held call ∷ []) marks y)) (sym same)
-        (subst (Paced l (meaning m.1) m.0 c) (sym (noted_here c (held call ∷ []) marks))
-        (paced_held l (meaning m.1) m.0 c t call (marks c) well.invariant on some patient concerns (well.paced c))))
-        (λ (differs : x ≡ c → ⊥). subst (Paced l (meaning m.1) m.0 x) (sym (noted_else c (held call ∷ []) marks x differs)) (well.paced x)) (cases_eq x c);
+    paced = noted_each (Paced l (meaning m.1) m.0) c (held call ∷ []) marks
+        (paced_held l (meaning m.1) m.0 c t call (marks c) well.invariant on some patient concerns (well.paced c)) (λ x differs. well.paced x);
   }
 
   -- A thread gets an operation, and nothing is granted anywhere: it is on no CPU, or had none.

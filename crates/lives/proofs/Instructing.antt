@@ -1,8 +1,7 @@
 -- One instruction keeps what holds of every machine with a past, and brings the operation nearer to its end.
-use Rattle.std.proofs.Common.{◌≡◌, ℕ, zero, suc, ◌+◌, ◌-◌, ◌*◌, ◌%◌, ◌^◌, ◌<◌, ◌≤◌, Bool, true, false, cond, ◌&&◌, eqb, leb, ◌⊎◌, List, [], ◌∷◌, map, length, get_or, set, Some, None, Option, sym, refl, ap, ◌∙◌, subst, inl, inr, ⊎_elim, mod-eq_of_lt, arith, length-set, get_or-set_other, get_or-set_same}
+use Rattle.std.proofs.Common.{◌≡◌, ℕ, zero, suc, ◌+◌, ◌-◌, ◌*◌, ◌%◌, ◌^◌, ◌<◌, ◌≤◌, cond, ◌&&◌, eqb, leb, ◌⊎◌, List, [], ◌∷◌, map, length, get_or, set, Some, None, Option, sym, refl, ap, ◌∙◌, subst, inl, inr, ⊎_elim, mod-eq_of_lt, arith, length-set, get_or-set_other}
 use lib.Seq.{set-get_or}
 use Rattle.std.proofs.lemmas.Bool.{cond-false, eq-eqb, ne_eqb, cases_lt, and_parts, leb-true, true_from_ne_false}
-use Rattle.std.proofs.lemmas.Option.{same_Some}
 use Rattle.std.specs.List.{AllByRecursion}
 use Rattle.words.specs.declared.Word.{Word}
 use Rattle.words.specs.declared.Word.TheVariants.{Enter, ReadCpu, Restart}
@@ -18,14 +17,14 @@ use Rattle.model.specs.declared.state.Cpu.{Cpu}
 use Rattle.model.specs.declared.state.Image.{Image}
 use Rattle.model.specs.declared.state.Core.{Core}
 use Rattle.model.specs.declared.state.Settling.{Settling}
-use Rattle.model.specs.State.{no_cpu, no_thread, core_next, put_cpu, put_thread, thread_at, cpu_at, top_frame, dropped, descriptor_of_operation}
+use Rattle.model.specs.State.{no_cpu, core_next, put_cpu, put_thread, thread_at, cpu_at, top_frame, dropped, descriptor_of_operation}
 use Rattle.model.specs.Words.{Effect, Performed, progress, notice_of, settled_as, performed}
 use Rattle.model.specs.Ledger.{Ledger, Waiting, Fed, updated, with_waiting, does_whole, settle_top, settle_on}
 use Rattle.model.specs.Claims.{among, found}
 use Rattle.lives.proofs.Nodes.{updated_here, settled_nodes, hand_found, hand_not_listed}
 use Rattle.lives.proofs.Stacks.{frames_top}
 use Rattle.lives.proofs.Midway.{words_of, word_number, Known, Holds, Valid, ByAnswer, OnlyTheHandsNode, GoesOn, SettlesAs, step_of, does_right}
-use Rattle.lives.proofs.Standing.{TextStands, RestartPoint, at_entry, at_abort, at_start, Midway, Standing, idle, resting, restarting, midway, ThreadStands, Invariant, StandsThere, restarts_there, midway_there, stands_there}
+use Rattle.lives.proofs.Standing.{TextStands, RestartPoint, at_entry, at_abort, at_start, Midway, Standing, resting, restarting, midway, ThreadStands, Invariant, StandsThere, restarts_there, midway_there, stands_there, cpu_written, thread_written}
 use Rattle.lives.proofs.Keeping.{once_at_most, Change, after_change, kept}
 use Rattle.lives.proofs.Threads.{TopBecomes, top_is, topped, all_top, top_waits, dropped_stands, dropped_restarts}
 use Rattle.lives.proofs.Wholes.{same_ledger, whole_elsewhere, settled_elsewhere}
@@ -177,18 +176,16 @@ module _ (l : Ledger) (m : Meaning) (core : Core) (c t : ℕ) (inv : Invariant l
   abbrev pub Right : Meaning → Performed → Type 0
   Right n p = Becomes m p.notice n → BySettled p.settling (Quiet n p.core) (Settled n p.core)
 
-  -- A word that settles nothing.
-  went : (n : Meaning) (th : Thread) (cpus : List Cpu) (next : List ℕ) (frame : Frame) → length cpus ≡ 8 → ((other : ℕ) → (other ≡ c → ⊥) → get_or cpus other no_cpu ≡ cpu_at core other)
+  -- The thread's top frame becomes another, and the CPU's structures change as they may.
+  pub top_changed : (n : Meaning) (th : Thread) (cpus : List Cpu) (next : List ℕ) (frame : Frame) → length cpus ≡ 8 → ((other : ℕ) → (other ≡ c → ⊥) → get_or cpus other no_cpu ≡ cpu_at core other)
       → (get_or cpus c no_cpu).current ≡ (cpu_at core c).current → Holds core.sizes (l.counters c) (l.lists c) (l.rings c) (get_or cpus c no_cpu) next → length next ≡ length core.next
       → OnlyTheHandsNode (l.hands t) core.next next → TopBecomes thread frame th → frame.operation ≡ operation → th.hand ≡ thread.hand → ((d : ℕ) → n.section d ≡ m.section d)
       → ((other : ℕ) → (other ≡ c → ⊥) → n.patience other ≡ m.patience other)
-      → (RestartPoint core.image frame × (n.patience c ≡ 0)) ⊎ Midway core.sizes.packets core.image c (get_or cpus c no_cpu) next th → to_go core.image frame + 4 ≡ to_go core.image (top_frame thread)
-      → Quiet n (after_change l l m n core c t th cpus next)
-  went n th cpus next frame eight else_cpus same_current holds nexts next_else becomes same_operation hand sections patience_else where_to nearer =
-      record { invariant = kept l l m n core c t th cpus next change; still = still; patience_else = patience_else; nearer = ap (λ x. to_go core.image (top_frame x) + 4) here ∙ ap (λ f. to_go core.image f + 4) top ∙ nearer }
+      → (RestartPoint core.image frame × (n.patience c ≡ 0)) ⊎ Midway core.sizes.packets core.image c (get_or cpus c no_cpu) next th → Invariant l n (after_change l l m n core c t th cpus next)
+  top_changed n th cpus next frame eight else_cpus same_current holds nexts next_else becomes same_operation hand sections patience_else where_to = kept l l m n core c t th cpus next change
     where
       here : thread_at (after_change l l m n core c t th cpus next) t ≡ th
-      here = get_or-set_same core.threads t th no_thread (omega (arith, t_exists, inv.limits.threads, inv.sixteen_threads))
+      here = thread_written inv t_exists th
 
       top : top_frame th ≡ frame
       top = top_is thread th frame stands.whole some becomes
@@ -225,6 +222,16 @@ module _ (l : Ledger) (m : Meaning) (core : Core) (c t : ℕ) (inv : Invariant l
         standing = standing;
       }
 
+  -- A word that settles nothing.
+  went : (n : Meaning) (th : Thread) (cpus : List Cpu) (next : List ℕ) (frame : Frame) → TopBecomes thread frame th → Invariant l n (after_change l l m n core c t th cpus next)
+      → ((other : ℕ) → (other ≡ c → ⊥) → n.patience other ≡ m.patience other) → to_go core.image frame + 4 ≡ to_go core.image (top_frame thread) → Quiet n (after_change l l m n core c t th cpus next)
+  went n th cpus next frame becomes invariant patience_else nearer = record {
+    invariant = invariant;
+    still = subst (λ (x : Thread). 0 < x.depth) (sym (thread_written inv t_exists th)) (omega (arith, becomes.depth));
+    patience_else = patience_else;
+    nearer = ap (λ x. to_go core.image (top_frame x) + 4) (thread_written inv t_exists th) ∙ ap (λ f. to_go core.image f + 4) (top_is thread th frame stands.whole some becomes) ∙ nearer;
+  }
+
   -- One that changes only the thread: the structures of CPU q are put back as they were.
   moved : (n : Meaning) (th : Thread) (q : ℕ) (frame : Frame) → TopBecomes thread frame th → frame.operation ≡ operation → th.hand ≡ thread.hand → ((d : ℕ) → n.section d ≡ m.section d)
       → ((other : ℕ) → (other ≡ c → ⊥) → n.patience other ≡ m.patience other)
@@ -232,7 +239,8 @@ module _ (l : Ledger) (m : Meaning) (core : Core) (c t : ℕ) (inv : Invariant l
       → Quiet n (after_change l l m n core c t th (set core.cpus q (cpu_at core q)) core.next)
   moved n th q frame becomes same_operation hand sections patience_else where_to nearer =
       subst (λ cpus. Quiet n (after_change l l m n core c t th cpus core.next)) (sym (set-get_or core.cpus q no_cpu))
-      (went n th core.cpus core.next frame inv.eight_cpus (λ other differs. refl) refl (inv.holds c c_exists) refl (λ node ne. refl) becomes same_operation hand sections patience_else where_to nearer)
+      (went n th core.cpus core.next frame becomes
+      (top_changed n th core.cpus core.next frame inv.eight_cpus (λ other differs. refl) refl (inv.holds c c_exists) refl (λ node ne. refl) becomes same_operation hand sections patience_else where_to) patience_else nearer)
 
   -- The instruction with the word at hand, on the structures of CPU q.
   abbrev effect_on : ℕ → Word → Effect
@@ -299,13 +307,14 @@ module _ (l : Ledger) (m : Meaning) (core : Core) (c t : ℕ) (inv : Invariant l
   cpus_at i = set core.cpus c (step_at i).cpu
 
   cpu_there : (i : ℕ) → get_or (cpus_at i) c no_cpu ≡ (step_at i).cpu
-  cpu_there i = get_or-set_same core.cpus c (step_at i).cpu no_cpu (omega (arith, c_exists, inv.limits.cpus, inv.eight_cpus))
+  cpu_there i = cpu_written inv c_exists (step_at i).cpu
 
   goes_right : (n : Meaning) (i : ℕ) (at : Midway core.sizes.packets core.image c (cpu_at core c) core.next thread) → at.words_done ≡ i
       → GoesOn core l c t thread (cpu_at core c) core.next operation i (step_at i) → PatienceBecomes m c (m.patience c - 1) n
       → Quiet n (after_change l l m n core c t (step_at i).thread (cpus_at i) (step_at i).next)
   goes_right n i at done g told =
-      went n (step_at i).thread (cpus_at i) (step_at i).next frame (length-set core.cpus c (step_at i).cpu ∙ inv.eight_cpus) (λ other differs. get_or-set_other core.cpus c other (step_at i).cpu no_cpu differs)
+      went n (step_at i).thread (cpus_at i) (step_at i).next frame becomes
+      (top_changed n (step_at i).thread (cpus_at i) (step_at i).next frame (length-set core.cpus c (step_at i).cpu ∙ inv.eight_cpus) (λ other differs. get_or-set_other core.cpus c other (step_at i).cpu no_cpu differs)
       (ap (λ (x : Cpu). x.current) (cpu_there i) ∙ g.current) (subst (λ x. Holds core.sizes (l.counters c) (l.lists c) (l.rings c) x (step_at i).next) (sym (cpu_there i)) g.holds) g.nexts
       (subst (λ h. OnlyTheHandsNode h core.next (step_at i).next) (inv.hands t t_exists) g.next_else) becomes refl g.hand told.sections_stay told.elsewhere
       (inr (record {
@@ -316,7 +325,7 @@ module _ (l : Ledger) (m : Meaning) (core : Core) (c t : ℕ) (inv : Invariant l
         known =
             subst (λ x. Known core.sizes.packets x (step_at i).next (step_at i).thread (top_frame (step_at i).thread).operation (suc i)) (sym (cpu_there i))
             (subst (λ (f : Frame). Known core.sizes.packets (step_at i).cpu (step_at i).next (step_at i).thread f.operation (suc i)) (sym top) g.known);
-      })) nearer
+      }))) told.elsewhere nearer
     where
       frame : Frame
       frame = frame_at (((top_frame thread).place + 4) % 2 ^ 64) (top_frame thread).armed
@@ -386,7 +395,7 @@ module _ (l : Ledger) (m : Meaning) (core : Core) (c t : ℕ) (inv : Invariant l
       restart = dropped_restarts core.sizes core.image top rest thread (step_at i).thread stands_so some s.frames s.depth
 
       here : thread_at (after_change l (ledger_after rest operation) m n core c t (step_at i).thread (cpus_at i) (step_at i).next) t ≡ (step_at i).thread
-      here = get_or-set_same core.threads t (step_at i).thread no_thread (omega (arith, t_exists, inv.limits.threads, inv.sixteen_threads))
+      here = thread_written inv t_exists (step_at i).thread
 
       same_current : (get_or (cpus_at i) c no_cpu).current ≡ (cpu_at core c).current
       same_current = ap (λ (x : Cpu). x.current) (cpu_there i) ∙ s.current

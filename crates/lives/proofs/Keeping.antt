@@ -1,6 +1,6 @@
 -- What holds of every machine with a past is kept by a change of one CPU's thread and structures.
-use Rattle.std.proofs.Common.{◌≡◌, ℕ, zero, suc, ◌<◌, ◌≤◌, Bool, true, false, cond, ◌&&◌, eqb, leb, List, [], ◌∷◌, length, get_or, set, Some, sym, ap, ◌∙◌, subst, ⊎_elim, arith, length-set, get_or-set_other, get_or-set_same}
-use Rattle.std.proofs.lemmas.Bool.{cases_eq, cond_both, eq-eqb}
+use Rattle.std.proofs.Common.{◌≡◌, ℕ, zero, suc, ◌<◌, ◌≤◌, cond, ◌&&◌, eqb, leb, List, [], ◌∷◌, length, get_or, set, Some, sym, ap, ◌∙◌, subst, arith, length-set, get_or-set_other}
+use Rattle.std.proofs.lemmas.Bool.{cond_both, eq-eqb}
 use Rattle.std.specs.List.{AllByRecursion}
 use Rattle.exclusion.specs.Meaning.{Meaning}
 use Rattle.model.specs.declared.state.Operation.{Operation}
@@ -11,9 +11,9 @@ use Rattle.model.specs.declared.state.Core.{Core}
 use Rattle.model.specs.State.{no_cpu, no_thread, thread_at, cpu_at, top_frame}
 use Rattle.model.specs.Ledger.{Ledger}
 use Rattle.model.specs.Claims.{Listed, among, found}
-use Rattle.lives.proofs.Nodes.{hand_not_listed, hands_apart, listed_same}
+use Rattle.lives.proofs.Nodes.{here_or_else, hand_not_listed, hands_apart, listed_same}
 use Rattle.lives.proofs.Midway.{Known, Holds, OnlyTheHandsNode}
-use Rattle.lives.proofs.Standing.{RestartPoint, Midway, Standing, idle, resting, restarting, midway, ThreadStands, Invariant}
+use Rattle.lives.proofs.Standing.{RestartPoint, Midway, Standing, idle, resting, restarting, midway, ThreadStands, Invariant, thread_written}
 use Rattle.lives.specs.Apart.{frames_of, RingFromASlot}
 
 -- What is known in a section is not changed by next words that it does not read: those of the node in hand and of the list's
@@ -87,7 +87,7 @@ module _ (l k : Ledger) (m n : Meaning) (core : Core) (c t : ℕ) (th : Thread) 
     t_exists = (inv.current_exists c t change.on).1
 
     thread_here : thread_at after_change t ≡ th
-    thread_here = get_or-set_same core.threads t th no_thread (omega (arith, t_exists, inv.limits.threads, inv.sixteen_threads))
+    thread_here = thread_written inv t_exists th
 
     thread_else : (s : ℕ) → (s ≡ t → ⊥) → thread_at after_change s ≡ thread_at core s
     thread_else s differs = get_or-set_other core.threads t s th no_thread differs
@@ -157,30 +157,22 @@ module _ (l k : Ledger) (m n : Meaning) (core : Core) (c t : ℕ) (th : Thread) 
       eight_cpus = change.eight_cpus;
       sixteen_threads = length-set core.threads t th ∙ inv.sixteen_threads;
       next_words = change.nexts ∙ inv.next_words;
-      holds = λ other exists.
-          ⊎_elim (λ (same : other ≡ c). subst (λ x. Holds core.sizes (k.counters x) (k.lists x) (k.rings x) (get_or cpus x no_cpu) next) (sym same) change.holds)
-          (λ (differs : other ≡ c → ⊥). holds_else other differs exists) (cases_eq other c);
-      hands = λ s exists.
-          ⊎_elim (λ (same : s ≡ t). ap (λ x. (thread_at after_change x).hand) same ∙ ap (λ (x : Thread). x.hand) thread_here ∙ change.hand ∙ ap k.hands (sym same))
-          (λ (differs : s ≡ t → ⊥). ap (λ (x : Thread). x.hand) (thread_else s differs) ∙ inv.hands s exists ∙ sym (change.ledger_else.hands s differs)) (cases_eq s t);
+      holds = here_or_else (λ x. x < core.sizes.cpus → Holds core.sizes (k.counters x) (k.lists x) (k.rings x) (get_or cpus x no_cpu) next) c (λ exists. change.holds) holds_else;
+      hands = here_or_else (λ s. s < core.sizes.threads → (thread_at after_change s).hand ≡ k.hands s) t (λ exists. ap (λ (x : Thread). x.hand) thread_here ∙ change.hand)
+          (λ s differs exists. ap (λ (x : Thread). x.hand) (thread_else s differs) ∙ inv.hands s exists ∙ sym (change.ledger_else.hands s differs));
       current = λ other.
-          ⊎_elim (λ (same : other ≡ c). ap (λ x. (get_or cpus x no_cpu).current) same ∙ change.same_current ∙ inv.current c ∙ ap l.current (sym same))
-          (λ (differs : other ≡ c → ⊥). current_else other differs ∙ inv.current other) (cases_eq other c)
+          here_or_else (λ x. (get_or cpus x no_cpu).current ≡ l.current x) c (change.same_current ∙ inv.current c) (λ x differs. current_else x differs ∙ inv.current x) other
           ∙ sym (change.ledger_else.current other);
       current_exists = λ other s on. inv.current_exists other s (sym (change.ledger_else.current other) ∙ on);
       on_one_cpu = λ one other s on also. inv.on_one_cpu one other s (sym (change.ledger_else.current one) ∙ on) (sym (change.ledger_else.current other) ∙ also);
-      threads = λ s exists.
-          ⊎_elim
-          (λ (same : s ≡ t).
-          subst (λ x. ThreadStands core.sizes core.image (k.waiting x) (thread_at after_change x)) (sym same) (subst (ThreadStands core.sizes core.image (k.waiting t)) (sym thread_here) change.thread))
-          (λ (differs : s ≡ t → ⊥).
+      threads = here_or_else (λ s. s < core.sizes.threads → ThreadStands core.sizes core.image (k.waiting s) (thread_at after_change s)) t
+          (λ exists. subst (ThreadStands core.sizes core.image (k.waiting t)) (sym thread_here) change.thread)
+          (λ s differs exists.
           subst (λ x. ThreadStands core.sizes core.image x (thread_at after_change s)) (sym (change.ledger_else.waiting s differs))
-          (subst (ThreadStands core.sizes core.image (l.waiting s)) (sym (thread_else s differs)) (inv.threads s exists))) (cases_eq s t);
+          (subst (ThreadStands core.sizes core.image (l.waiting s)) (sym (thread_else s differs)) (inv.threads s exists)));
       nowhere_else = λ s beyond. change.ledger_else.waiting s (λ same. omega (arith, t_exists)) ∙ inv.nowhere_else s beyond;
       nodes = λ node. change.nodes node ∙ inv.nodes node;
-      standing = λ other exists.
-          ⊎_elim (λ (same : other ≡ c). subst (λ x. Standing after_change (n.patience x) x) (sym same) change.standing)
-          (λ (differs : other ≡ c → ⊥). standing_else other differs exists (inv.standing other exists)) (cases_eq other c);
+      standing = here_or_else (λ x. x < core.sizes.cpus → Standing after_change (n.patience x) x) c (λ exists. change.standing) (λ x differs exists. standing_else x differs exists (inv.standing x exists));
       off_cpu = λ s exists off.
           let differs : s ≡ t → ⊥ = λ same. off c (change.ledger_else.current c ∙ change.on ∙ ap Some (sym same)) in
           subst (λ x. AllByRecursion (RestartPoint core.image) (frames_of x)) (sym (thread_else s differs)) (inv.off_cpu s exists (λ other on. off other (change.ledger_else.current other ∙ on)));

@@ -1,6 +1,6 @@
 -- Every call keeps what holds of a machine with a past.
-use Rattle.std.proofs.Common.{◌≡◌, ℕ, zero, suc, ◌<◌, Bool, true, false, cond, eqb, List, [], ◌∷◌, ◌++◌, reverse, length, take, replicate, is_some, Some, None, Ok, Err, Option, Result, sym, refl, ap, ap₂, ◌∙◌, subst, ⊎_elim, arith, get_or-set_other, get_or-set_same}
-use Rattle.std.proofs.lemmas.Bool.{cases_eq, eq-eqb, ne_eqb, eqb-true, ltb-true, not-true}
+use Rattle.std.proofs.Common.{◌≡◌, ℕ, zero, suc, ◌<◌, true, false, cond, eqb, List, [], ◌∷◌, ◌++◌, reverse, length, take, replicate, is_some, Some, None, Ok, Err, Option, Result, sym, refl, ap, ap₂, ◌∙◌, subst, ⊎_elim, arith, get_or-set_other}
+use Rattle.std.proofs.lemmas.Bool.{cond_both, cases_eq, eq-eqb, ne_eqb, eqb-true, ltb-true, not-true}
 use Rattle.std.proofs.lemmas.Option.{same_Some}
 use Rattle.std.specs.List.{AllByRecursion}
 use Rattle.faults.specs.declared.Fault.{Fault}
@@ -21,14 +21,15 @@ use Rattle.model.specs.declared.state.Thread.{Thread}
 use Rattle.model.specs.declared.state.Core.{Core}
 use Rattle.model.specs.declared.state.Settling.{Settling}
 use Rattle.model.specs.State.{no_thread, thread_at, cpu_at}
-use Rattle.model.specs.Calls.{ByChecks, Stopped, ByCurrent, ByOperation, Granted, Answered, refused, accepted, ran, advanced, operation_of, has_cpu, has_thread, is_operation, has_no_frame, has_room, cpu_of, not_current, has_current, current_works, has_work, DisturbsCurrent, Performs, Runs, Signals, Step}
+use Rattle.model.specs.Calls.{ByChecks, Stopped, Granted, Answered, refused, accepted, ran, advanced, operation_of, has_cpu, has_thread, is_operation, has_no_frame, has_room, cpu_of, not_current, has_current, current_works, has_work, DisturbsCurrent, Performs, Runs, Signals, Step}
 use Rattle.model.specs.Ledger.{Ledger, updated, brings}
 use Rattle.model.specs.Ledger.{with_current as ledger-current}
 use Rattle.model.specs.Life.{Event, ledger}
 use Rattle.model.specs.Claims.{is_thread, HasMeaning, Mark, instruction, granted, held, about, trace, SettlingsAgree, instructions_of}
+use Rattle.model.proofs.Calling.{by_current, by_operation}
 use Rattle.lives.proofs.Nodes.{updated_else}
 use Rattle.lives.proofs.Midway.{Valid}
-use Rattle.lives.proofs.Standing.{RestartPoint, Standing, idle, resting, restarting, midway, Invariant}
+use Rattle.lives.proofs.Standing.{RestartPoint, Standing, idle, resting, restarting, midway, Invariant, thread_written}
 use Rattle.lives.proofs.Assigning.{assigned, enlisted}
 use Rattle.lives.proofs.Running.{Well, well_marks, noted, ran_well, runs_well, runs_settle}
 use Rattle.lives.proofs.Granting.{granted_well, held_well, enlisted_well, thread_there, not_thread}
@@ -79,13 +80,12 @@ module _ {E : Type 0} (meaning : E → Meaning) (told : E → Notice → E → T
     abbrev After : Call → Answered → Core × E → Type 0
     After x r k = LivedWell sizes (event x r ∷ before) k
 
+    as_answered : (x : Call) {r s : Answered} {k n : Core × E} → r ≡ s → k ≡ n → After x s n → After x r k
+    as_answered x {s = s} {k} answer same after = subst (λ a. After x a k) (sym answer) (subst (After x s) (sym same) after)
+
     -- Refused, but not held: nothing has happened.
     unmarked : (x : Call) (fault : Fault) → NotHeld fault → (c : ℕ) → marks c ≡ trace sizes (event x (refused fault) ∷ before) c
-    unmarked x fault other c = sym (ap (λ b. cond (about l c x) (cond b (held x ∷ []) []) [] ++ marks c) other ∙ go (about l c x))
-      where
-        go : (b : Bool) → cond b [] [] ++ marks c ≡ marks c
-        go true = refl
-        go false = refl
+    unmarked x fault other c = sym (ap (λ b. cond (about l c x) (cond b (held x ∷ []) []) [] ++ marks c) other ∙ cond_both (about l c x) [] [] (λ new. new ++ marks c ≡ marks c) (λ e. refl) (λ e. refl))
 
     refused_well : (x : Call) (fault : Fault) → NotHeld fault → After x (refused fault) m
     refused_well x fault other = record { same_sizes = refl; well = well_marks meaning l marks _ m (unmarked x fault other) lived_so.well; settlings = (refl, lived_so.settlings) }
@@ -95,7 +95,7 @@ module _ {E : Type 0} (meaning : E → Meaning) (told : E → Notice → E → T
         → (AllByRecursion (λ (check : Check). check.passes ≡ true) checks → done → After x r k) → (o : Result (Unit {0}) Fault) → all_pass checks ≡ o → ByChecks told answers m o r k done → After x r k
     checked x checks r k done others then (Ok u) is d = then (all_passed tt u checks is) d
     checked x checks r k done others then (Err fault) is (answer, same) =
-        subst (λ a. After x a k) (sym answer) (subst (After x (refused fault)) (sym same) (refused_well x fault (fault_among NotHeld tt checks fault others is)))
+        as_answered x answer same (refused_well x fault (fault_among NotHeld tt checks fault others is))
 
     -- Held.
     held_event : (x : Call) (c : ℕ) (exists : c < sizes.cpus) → IsHeld meaning told answers has l m c inv exists → ((other : ℕ) → about l other x ≡ eqb c other) → After x (refused (fault_at Held 0)) m
@@ -120,6 +120,16 @@ module _ {E : Type 0} (meaning : E → Meaning) (told : E → Notice → E → T
     empty_restarts : (t : ℕ) → (thread_at core t).depth ≡ 0 → AllByRecursion (RestartPoint core.image) (frames_of (thread_at core t))
     empty_restarts t rests = subst (AllByRecursion (RestartPoint core.image)) (sym (ap (λ n. reverse (take n (thread_at core t).frames)) rests)) tt
 
+    -- An operation on top of a thread that is on no CPU, or has nothing to do.
+    on_top : (t : ℕ) (raw : RawOperation) (operation : Operation) → operation_of sizes raw ≡ Some operation → t < sizes.threads → (thread_at core t).depth < 8
+        → AllByRecursion (RestartPoint core.image) (frames_of (thread_at core t)) → ((c : ℕ) → l.current c ≡ Some t → (thread_at core t).depth ≡ 0)
+        → Well meaning (brings l number t (Some operation)) marks (with_frame t operation core, m.1)
+    on_top t raw operation is exists room restart rests =
+        enlisted_well meaning l marks m lived_so.well _ (with_frame t operation core) t refl
+        (enlisted l (meaning m.1) core t number operation inv exists room restart (operation_valid sizes raw operation is) (λ c on. rest_is_calm c t on (rests c on))) (λ c. refl)
+        (λ s differs. get_or-set_other core.threads t s _ no_thread differs)
+        (subst (λ (x : Thread). 0 < x.depth) (sym (thread_written inv exists _)) (omega arith)) rests
+
     -- Enlist.
     enlist_accepted : (t : ℕ) (raw : RawOperation) (operation : Operation) → operation_of sizes raw ≡ Some operation → t < sizes.threads → (thread_at core t).depth ≡ 0
         → After (call.Enlist t raw) accepted (with_frame t operation core, m.1)
@@ -127,27 +137,17 @@ module _ {E : Type 0} (meaning : E → Meaning) (told : E → Notice → E → T
       same_sizes = refl;
       well =
           subst (λ o. Well meaning (brings l number t o) (trace sizes (event (call.Enlist t raw) accepted ∷ before)) (with_frame t operation core, m.1)) (sym is)
-          (enlisted_well meaning l marks m lived_so.well _ (with_frame t operation core) t refl
-          (enlisted l (meaning m.1) core t number operation inv exists (omega (arith, rests)) (empty_restarts t rests) (operation_valid sizes raw operation is) (λ c on. rest_is_calm c t on rests)) (λ c. refl)
-          (λ s differs. get_or-set_other core.threads t s _ no_thread differs)
-          (subst (λ (x : Thread). 0 < x.depth) (sym (get_or-set_same core.threads t _ no_thread (omega (arith, exists, inv.limits.threads, inv.sixteen_threads)))) (omega arith)) (λ c on. rests));
+          (on_top t raw operation is exists (omega (arith, rests)) (empty_restarts t rests) (λ c on. rests));
       settlings = (refl, lived_so.settlings);
     }
-
-    by_operation : (x : Call) (r : Answered) (k : Core × E) (P : Operation → Type 0) (raw : RawOperation) (o : Option Operation) → operation_of sizes raw ≡ o → ByOperation told answers o P
-        → ((operation : Operation) → operation_of sizes raw ≡ Some operation → P operation → After x r k) → After x r k
-    by_operation x r k P raw None is d then = absurd d
-    by_operation x r k P raw (Some operation) is d then = then operation is d
 
     enlist_well : (t : ℕ) (raw : RawOperation) (r : Answered) (k : Core × E) → Step told answers m (call.Enlist t raw) r k → After (call.Enlist t raw) r k
     enlist_well t raw r k step =
         checked (call.Enlist t raw) (has_thread core t ∷ is_operation core raw ∷ has_no_frame core t ∷ []) r k _ (refl, (refl, (refl, tt)))
         (λ passed d.
-        by_operation (call.Enlist t raw) r k (λ operation. (r ≡ accepted) × (k.0 ≡ with_frame t operation core) × (k.1 ≡ m.1)) raw (operation_of sizes raw) refl d
+        by_operation told answers (operation_of sizes raw) (λ operation. (r ≡ accepted) × (k.0 ≡ with_frame t operation core) × (k.1 ≡ m.1)) (After (call.Enlist t raw) r k) d
         (λ operation is p.
-        subst (λ a. After (call.Enlist t raw) a k) (sym p.0)
-        (subst (After (call.Enlist t raw) accepted) (sym (ap₂ (λ a b. (a, b)) p.1 p.2))
-        (enlist_accepted t raw operation is (ltb-true t sizes.threads passed.0) (eqb-true (thread_at core t).depth 0 passed.1.1.0)))))
+        as_answered (call.Enlist t raw) p.0 (ap₂ (λ a b. (a, b)) p.1 p.2) (enlist_accepted t raw operation is (ltb-true t sizes.threads passed.0) (eqb-true (thread_at core t).depth 0 passed.1.1.0))))
         _ refl step
 
     -- Run.
@@ -159,11 +159,6 @@ module _ {E : Type 0} (meaning : E → Meaning) (told : E → Notice → E → T
         let settled = ran_well meaning told answers has l marks m c t lived_so.well on some (Some s) k p in
         record { same_sizes = ap (λ (x : Core). x.sizes) p.0; well = settled.later; settlings = (sym settled.settling, lived_so.settlings) }
 
-    by_current : (x : Call) (r : Answered) (k : Core × E) (P : ℕ → Type 0) (c : ℕ) (o : Option ℕ) → (cpu_at core c).current ≡ o → ByCurrent told answers o P
-        → ((t : ℕ) → (cpu_at core c).current ≡ Some t → P t → After x r k) → After x r k
-    by_current x r k P c None is d then = absurd d
-    by_current x r k P c (Some t) is d then = then t is d
-
     works : (c t : ℕ) → (cpu_at core c).current ≡ Some t → current_works core (cpu_at core c).current ≡ true → 0 < (thread_at core t).depth
     works c t is passes = ltb-true 0 (thread_at core t).depth (sym (ap (current_works core) is) ∙ passes)
 
@@ -171,7 +166,7 @@ module _ {E : Type 0} (meaning : E → Meaning) (told : E → Notice → E → T
     run_well c r k step =
         checked (call.Run c) (has_cpu core c ∷ has_current core c ∷ has_work core c ∷ []) r k _ (refl, (refl, (refl, tt)))
         (λ passed d.
-        by_current (call.Run c) r k (λ t. (settling : Option Settling) × (r ≡ ran settling) × Performs told answers m c t settling k) c (cpu_at core c).current refl d
+        by_current told answers (cpu_at core c).current (λ t. (settling : Option Settling) × (r ≡ ran settling) × Performs told answers m c t settling k) (After (call.Run c) r k) d
         (λ t is p.
         subst (λ a. After (call.Run c) a k) (sym p.1) (ran_event c t p.0 k (sym (inv.current c) ∙ is) (works c t is passed.1.1.0) p.2)))
         _ refl step
@@ -194,8 +189,8 @@ module _ {E : Type 0} (meaning : E → Meaning) (told : E → Notice → E → T
     advance_well c n r k step =
         checked (call.Advance c n) (has_cpu core c ∷ has_current core c ∷ has_work core c ∷ []) r k _ (refl, (refl, (refl, tt)))
         (λ passed d.
-        by_current (call.Advance c n) r k
-        (λ t. (count : ℕ) × (settling : Option Settling) × (r ≡ advanced count settling) × Stopped told answers n count settling × Runs told answers c t count settling m k) c (cpu_at core c).current refl d
+        by_current told answers (cpu_at core c).current
+        (λ t. (count : ℕ) × (settling : Option Settling) × (r ≡ advanced count settling) × Stopped told answers n count settling × Runs told answers c t count settling m k) (After (call.Advance c n) r k) d
         (λ t is p.
         subst (λ a. After (call.Advance c n) a k) (sym p.2) (advanced_event c n t p.0 p.1 k (sym (inv.current c) ∙ is) (works c t is passed.1.1.0) p.4)))
         _ refl step
@@ -213,7 +208,7 @@ module _ {E : Type 0} (meaning : E → Meaning) (told : E → Notice → E → T
     changed : (x : Call) (c : ℕ) (to : Option ℕ) (exists : c < sizes.cpus) → Free to → ((other : ℕ) → about l other x ≡ eqb c other)
         → ((r : Answered) (k : Core × E) → r ≡ accepted → Well meaning (with_current_ledger c to) (noted c (granted ∷ []) marks) k → k.0.sizes ≡ sizes → After x r k)
         → (r : Answered) (k : Core × E) (o : Option Core) → ByCore meaning told answers has l m c inv exists o → Granted told answers m c o (given_thread c to) r k → After x r k
-    changed x c to exists free about_it then r k None is_held_lem (answer, same) = subst (λ a. After x a k) (sym answer) (subst (After x (refused (fault_at Held 0))) (sym same) (held_event x c exists is_held_lem about_it))
+    changed x c to exists free about_it then r k None is_held_lem (answer, same) = as_answered x answer same (held_event x c exists is_held_lem about_it)
     changed x c to exists free about_it then r k (Some later) is_calm (answer, core_is, tells) =
         let calm = is_calm k.1 tells in
         let becomes : PatienceBecomes (meaning m.1) c 0 (meaning k.1) = has.obeys m.1 (Left c) k.1 tells in
@@ -262,10 +257,7 @@ module _ {E : Type 0} (meaning : E → Meaning) (told : E → Notice → E → T
           well =
               subst (λ o. Well meaning (brings l number t o) (trace sizes (event (call.Signal t raw) accepted ∷ before)) (with_frame t operation core, m.1)) (sym is)
               (well_marks meaning _ marks _ _ (λ c. sym (ap (λ b. cond b (granted ∷ []) [] ++ marks c) (not_thread l t (l.current c) (off c))))
-              (enlisted_well meaning l marks m lived_so.well _ (with_frame t operation core) t refl
-              (enlisted l (meaning m.1) core t number operation inv exists room (inv.off_cpu t exists off) (operation_valid sizes raw operation is) (λ c on. absurd (off c on))) (λ c. refl)
-              (λ s differs. get_or-set_other core.threads t s _ no_thread differs)
-              (subst (λ (x : Thread). 0 < x.depth) (sym (get_or-set_same core.threads t _ no_thread (omega (arith, exists, inv.limits.threads, inv.sixteen_threads)))) (omega arith)) (λ c on. absurd (off c on))));
+              (on_top t raw operation is exists room (inv.off_cpu t exists off) (λ c on. absurd (off c on))));
           settlings = (refl, lived_so.settlings);
         }
 
@@ -279,7 +271,7 @@ module _ {E : Type 0} (meaning : E → Meaning) (told : E → Notice → E → T
     signal_here : (t : ℕ) (raw : RawOperation) (operation : Operation) (c : ℕ) (exists : c < sizes.cpus) → operation_of sizes raw ≡ Some operation → t < sizes.threads → (thread_at core t).depth < 8 → l.current c ≡ Some t
         → (r : Answered) (k : Core × E) (o : Option Core) → ByCore meaning told answers has l m c inv exists o → Granted told answers m c o (with_frame t operation) r k → After (call.Signal t raw) r k
     signal_here t raw operation c exists is t_exists room on r k None is_held_lem (answer, same) =
-        subst (λ a. After (call.Signal t raw) a k) (sym answer) (subst (After (call.Signal t raw) (refused (fault_at Held 0))) (sym same) (held_event (call.Signal t raw) c exists is_held_lem (about_thread t c on)))
+        as_answered (call.Signal t raw) answer same (held_event (call.Signal t raw) c exists is_held_lem (about_thread t c on))
     signal_here t raw operation c exists is t_exists room on r k (Some later) is_calm (answer, core_is, tells) =
         let calm = is_calm k.1 tells in
         let becomes : PatienceBecomes (meaning m.1) c 0 (meaning k.1) = has.obeys m.1 (Left c) k.1 tells in
@@ -305,7 +297,7 @@ module _ {E : Type 0} (meaning : E → Meaning) (told : E → Notice → E → T
     signal_by : (t : ℕ) (raw : RawOperation) (operation : Operation) → operation_of sizes raw ≡ Some operation → t < sizes.threads → (thread_at core t).depth < 8 → (r : Answered) (k : Core × E) (o : Option ℕ) → cpu_of core t ≡ o
         → Signals told answers m t operation o r k → After (call.Signal t raw) r k
     signal_by t raw operation is exists room r k None nowhere (answer, core_is, same) =
-        subst (λ a. After (call.Signal t raw) a k) (sym answer) (subst (After (call.Signal t raw) accepted) (sym (ap₂ (λ a b. (a, b)) core_is same)) (signal_elsewhere t raw operation is exists room nowhere))
+        as_answered (call.Signal t raw) answer (ap₂ (λ a b. (a, b)) core_is same) (signal_elsewhere t raw operation is exists room nowhere)
     signal_by t raw operation is exists room r k (Some c) there (o, disturbs, grants) =
         let on : l.current c ≡ Some t = sym (inv.current c) ∙ cpu_has core t c there in
         let c_exists = (inv.current_exists c t on).0 in
@@ -315,7 +307,7 @@ module _ {E : Type 0} (meaning : E → Meaning) (told : E → Notice → E → T
     signal_well t raw r k step =
         checked (call.Signal t raw) (has_thread core t ∷ is_operation core raw ∷ has_room core t ∷ []) r k _ (refl, (refl, (refl, tt)))
         (λ passed d.
-        by_operation (call.Signal t raw) r k (λ operation. Signals told answers m t operation (cpu_of core t) r k) raw (operation_of sizes raw) refl d
+        by_operation told answers (operation_of sizes raw) (λ operation. Signals told answers m t operation (cpu_of core t) r k) (After (call.Signal t raw) r k) d
         (λ operation is p. signal_by t raw operation is (ltb-true t sizes.threads passed.0) (ltb-true (thread_at core t).depth 8 passed.1.1.0) r k (cpu_of core t) refl p))
         _ refl step
 

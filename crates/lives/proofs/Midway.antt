@@ -1,8 +1,8 @@
 -- What is known of a thread midway in its section, and what one more word makes of it, seen from the CPU's own structures.
-use Rattle.std.proofs.Common.{◌≡◌, ℕ, zero, suc, ◌+◌, ◌-◌, ◌%◌, ◌^◌, ◌<◌, ◌≤◌, cond, eqb, ◌⊎◌, List, [], ◌∷◌, ◌++◌, length, get_or, set, Some, None, Option, sym, refl, ap, ◌∙◌, subst, ⊎_elim, mod-lt, mod-eq_of_lt, arith, length-set, get_or-set_other, get_or-set_same}
+use Rattle.std.proofs.Common.{◌≡◌, ℕ, zero, suc, ◌+◌, ◌-◌, ◌%◌, ◌^◌, ◌<◌, ◌≤◌, cond, eqb, List, [], ◌∷◌, ◌++◌, length, get_or, set, Some, None, Option, sym, refl, ap, ◌∙◌, subst, ⊎_elim, mod-lt, mod-eq_of_lt, arith, length-set, get_or-set_other, get_or-set_same}
 use native.Mathlib.Nat.{mod-add-mod, add-mod_right}
 use Rattle.std.proofs.lemmas.List.{length_push, get_or_push, get_or_append_left, nil_from_length}
-use Rattle.std.proofs.lemmas.Bool.{cases_eq, cases_lt, eqb-true, eqb-false, le-leb, lt-leb, cond_both}
+use Rattle.std.proofs.lemmas.Bool.{cases_lt, eqb-true, eqb-false, le-leb, lt-leb, cond_both}
 use Rattle.image.specs.declared.fields.Sizes.{Sizes}
 use Rattle.words.specs.declared.Word.{Word}
 use Rattle.words.specs.declared.Word.TheVariants.{Enter}
@@ -19,7 +19,7 @@ use Rattle.model.specs.Words.{Effect, onward, goes, settles, by_hand}
 use Rattle.model.specs.Ledger.{Ledger, Outcome, with_rings, updated, stays, pushes, pops, takes, does_whole}
 use Rattle.model.specs.Claims.{Listed, among}
 use Rattle.model.proofs.Rings.{further}
-use Rattle.lives.proofs.Nodes.{updated_here, updated_else, listed_same}
+use Rattle.lives.proofs.Nodes.{here_or_else, updated_here, updated_else, listed_same}
 use Rattle.lives.specs.Apart.{does, RingFromASlot}
 
 -- The words of an operation's section.
@@ -130,6 +130,10 @@ abbrev pub ByAnswer : Option Answer → Type 0 → (Answer → Type 0) → Type 
 ByAnswer None going settled = going
 ByAnswer (Some answer) going settled = settled answer
 
+pub by_hand_cases : (P : Effect → Type 0) (f : ℕ → Effect) (otherwise : Effect) (o : Option ℕ) → (o ≡ None → P otherwise) → ((node : ℕ) → o ≡ Some node → P (f node)) → P (by_hand o f otherwise)
+by_hand_cases P f otherwise None none some = none refl
+by_hand_cases P f otherwise (Some node) none some = some node refl
+
 module _ (core : Core) (l : Ledger) (here t : ℕ) (thread : Thread) (cpu : Cpu) (next : List ℕ) where
   -- It goes on: the ledger still describes the structures, and one word more is known.
   pub record GoesOn (operation : Operation) (i : ℕ) (e : Effect) : Type 0 where
@@ -166,10 +170,6 @@ module _ (core : Core) (l : Ledger) (here t : ℕ) (thread : Thread) (cpu : Cpu)
   abbrev KnownNow : Operation → ℕ → Type 0
   KnownNow operation i = Known core.sizes.packets cpu next thread operation i
 
-  by_hand_cases : (P : Effect → Type 0) (f : ℕ → Effect) (otherwise : Effect) (o : Option ℕ) → (o ≡ None → P otherwise) → ((node : ℕ) → o ≡ Some node → P (f node)) → P (by_hand o f otherwise)
-  by_hand_cases P f otherwise None none some = none refl
-  by_hand_cases P f otherwise (Some node) none some = some node refl
-
   -- What stands, for the structures of the CPU and the thread's hand.
   module _
       (holds : Holds core.sizes (l.counters here) (l.lists here) (l.rings here) cpu next)
@@ -202,7 +202,7 @@ module _ (core : Core) (l : Ledger) (here t : ℕ) (thread : Thread) (cpu : Cpu)
       holds = record {
         eight_counters = length-set cpu.counters counter thread.a ∙ holds.eight_counters;
         sixteen_slots = holds.sixteen_slots;
-        counts = λ other below. counted other below (cases_eq other counter);
+        counts = counted;
         listed = holds.listed;
         ringed = record { at_most = holds.ringed.at_most; head_is_a_slot = holds.ringed.head_is_a_slot; slot = holds.ringed.slot; up_to_the_tail = holds.ringed.up_to_the_tail };
       };
@@ -210,14 +210,13 @@ module _ (core : Core) (l : Ledger) (here t : ℕ) (thread : Thread) (cpu : Cpu)
       next_else = λ node ne. refl;
     }
       where
-        counted : (other : ℕ) → other < core.sizes.counters → (other ≡ counter) ⊎ (other ≡ counter → ⊥) → get_or (set cpu.counters counter thread.a) other 0 ≡ (whole (Add counter amount)).ledger.counters here other
-        counted other below =
-            ⊎_elim
-            (λ same.
-            ap (λ j. get_or (set cpu.counters counter thread.a) j 0) same ∙ get_or-set_same cpu.counters counter thread.a 0 (omega (arith, holds.eight_counters)) ∙ known
-            ∙ ap (λ v. (v + amount) % 2 ^ 64) (holds.counts counter valid) ∙ sym (updated_here (l.counters here) counter _) ∙ ap (updated (l.counters here) counter _) (sym same)
-            ∙ ap (λ f. f other) (sym (updated_here l.counters here _)))
-            (λ differs.
+        counted : (other : ℕ) → other < core.sizes.counters → get_or (set cpu.counters counter thread.a) other 0 ≡ (whole (Add counter amount)).ledger.counters here other
+        counted =
+            here_or_else (λ other. other < core.sizes.counters → get_or (set cpu.counters counter thread.a) other 0 ≡ (whole (Add counter amount)).ledger.counters here other) counter
+            (λ below.
+            get_or-set_same cpu.counters counter thread.a 0 (omega (arith, holds.eight_counters)) ∙ known ∙ ap (λ v. (v + amount) % 2 ^ 64) (holds.counts counter valid)
+            ∙ sym (updated_here (l.counters here) counter _) ∙ ap (λ f. f counter) (sym (updated_here l.counters here _)))
+            (λ other differs below.
             get_or-set_other cpu.counters counter other thread.a 0 differs ∙ holds.counts other below ∙ sym (updated_else (l.counters here) counter _ other differs)
             ∙ ap (λ f. f other) (sym (updated_here l.counters here _)))
     adds counter amount valid (suc (suc (suc (suc i)))) known = absurd known

@@ -54,6 +54,10 @@ sum_has_two (suc k) f i j h g apart =
     omega arith)
     (λ (j_other : j ≡ k → ⊥). let rest : f i + f j ≤ sum_below k f = sum_has_two k f i j (omega arith) (omega arith) apart in omega arith) (cases_eq j k)) (cases_eq i k)
 
+-- What holds of one number, and of every other, holds of each.
+pub here_or_else : (P : ℕ → Type 0) (here : ℕ) → P here → ((x : ℕ) → (x ≡ here → ⊥) → P x) → (x : ℕ) → P x
+here_or_else P here there elsewhere x = ⊎_elim (λ (same : x ≡ here). subst P (sym same) there) (elsewhere x) (cases_eq x here)
+
 -- A function with another value at one argument: there, and elsewhere.
 pub updated_here : {A : Type 0} (f : ℕ → A) (i : ℕ) (x : A) → updated f i x i ≡ x
 updated_here f i x = ap (λ b. cond b x (f i)) (eq-eqb i i refl)

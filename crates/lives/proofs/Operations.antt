@@ -1,6 +1,6 @@
 -- The ledger alone: whatever its past, an operation that was brought has settled once or waits once.
-use Rattle.std.proofs.Common.{◌≡◌, ℕ, suc, ◌+◌, ◌<◌, Bool, true, false, cond, leb, ◌⊎◌, List, [], ◌∷◌, ◌++◌, length, Some, None, Option, sym, refl, ap, ◌∙◌, subst, inl, inr, ⊎_elim, arith}
-use Rattle.std.proofs.lemmas.Bool.{eq-eqb, ne_eqb, cases_eq}
+use Rattle.std.proofs.Common.{◌≡◌, ℕ, suc, ◌+◌, ◌<◌, cond, leb, ◌⊎◌, List, [], ◌∷◌, ◌++◌, length, Some, None, Option, sym, refl, ap, ◌∙◌, subst, inl, inr, ⊎_elim, arith}
+use Rattle.std.proofs.lemmas.Bool.{cond_both, eq-eqb, ne_eqb, cases_eq}
 use Rattle.image.specs.declared.fields.Sizes.{Sizes}
 use Rattle.calls.specs.declared.Call.{Call}
 use Rattle.calls.specs.declared.Call.TheVariants as call
@@ -10,7 +10,7 @@ use Rattle.model.specs.Calls.{operation_of}
 use Rattle.model.specs.Ledger.{Ledger, Waiting, Outcome, Fate, was_refused, was_accepted, has_settled, fate_of, updated, brings, pushes, pops, takes, does_whole, settle_top, settle_on, takes_in}
 use Rattle.model.specs.Life.{Event, ledger}
 use Rattle.model.specs.Claims.{with_number, brought_by, brought, settled, occurs, HasSettledOnce, WaitsOnce}
-use Rattle.lives.proofs.Nodes.{updated_here, updated_else}
+use Rattle.lives.proofs.Nodes.{here_or_else, updated_here, updated_else}
 
 -- An operation among others: one more with its number, none more with another.
 one_more : (number : ℕ) (w : Waiting) (ws : List Waiting) → w.call ≡ number → occurs number (w ∷ ws) ≡ suc (occurs number ws)
@@ -23,13 +23,15 @@ none_more number w ws ne = ap (λ b. cond b 1 0 + occurs number ws) (ne_eqb w.ca
 module _ (waiting : ℕ → List Waiting) (thread : ℕ) (ws : List Waiting) where
   -- A number that is as often in the new list as in the old one is in each thread as often as before.
   as_often : (number : ℕ) → occurs number ws ≡ occurs number (waiting thread) → (other : ℕ) → occurs number (updated waiting thread ws other) ≡ occurs number (waiting other)
-  as_often number same other =
-      ⊎_elim (λ e. ap (λ t. occurs number (updated waiting thread ws t)) e ∙ ap (occurs number) (updated_here waiting thread ws) ∙ same ∙ ap (λ t. occurs number (waiting t)) (sym e)) (λ ne. ap (occurs number) (updated_else waiting thread ws other ne)) (cases_eq other thread)
+  as_often number same =
+      here_or_else (λ t. occurs number (updated waiting thread ws t) ≡ occurs number (waiting t)) thread (ap (occurs number) (updated_here waiting thread ws) ∙ same)
+      (λ other ne. ap (occurs number) (updated_else waiting thread ws other ne))
 
   -- A number that is not in the new list and in no other thread is nowhere.
   nowhere_now : (number : ℕ) → occurs number ws ≡ 0 → ((other : ℕ) → (other ≡ thread → ⊥) → occurs number (waiting other) ≡ 0) → (other : ℕ) → occurs number (updated waiting thread ws other) ≡ 0
-  nowhere_now number here there other =
-      ⊎_elim (λ e. ap (λ t. occurs number (updated waiting thread ws t)) e ∙ ap (occurs number) (updated_here waiting thread ws) ∙ here) (λ ne. ap (occurs number) (updated_else waiting thread ws other ne) ∙ there other ne) (cases_eq other thread)
+  nowhere_now number here there =
+      here_or_else (λ t. occurs number (updated waiting thread ws t) ≡ 0) thread (ap (occurs number) (updated_here waiting thread ws) ∙ here)
+      (λ other ne. ap (occurs number) (updated_else waiting thread ws other ne) ∙ there other ne)
 
 -- What has become of the operation with a number: it was never brought, or it has settled once, or it waits once.
 record NeverBrought (number : ℕ) (waiting : ℕ → List Waiting) (done all : List Waiting) : Type 0 where
@@ -166,11 +168,7 @@ module _ (packets : ℕ) (l : Ledger) (thread cpu : ℕ) where
   whole_leaves (Add counter amount) = refl
   whole_leaves Push = push_leaves (l.hands thread)
   whole_leaves Pop = pop_leaves (l.hands thread) (l.lists cpu)
-  whole_leaves (Put amount) = by (leb packets (length (l.rings cpu))) _ _ refl refl
-    where
-      by : (b : Bool) (x y : Outcome) → x.ledger.waiting ≡ l.waiting → y.ledger.waiting ≡ l.waiting → (cond b x y).ledger.waiting ≡ l.waiting
-      by true x y p q = p
-      by false x y p q = q
+  whole_leaves (Put amount) = cond_both (leb packets (length (l.rings cpu))) _ _ (λ (o : Outcome). o.ledger.waiting ≡ l.waiting) (λ e. refl) (λ e. refl)
   whole_leaves Take = take_leaves (l.rings cpu)
 
 -- What each call does to the ledger keeps every number accounted for.

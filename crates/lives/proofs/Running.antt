@@ -1,6 +1,6 @@
 -- Runs of a CPU, one instruction after another: all is kept, settlings are the ledger's, and the trace keeps its pace.
-use Rattle.std.proofs.Common.{◌≡◌, ℕ, zero, suc, ◌<◌, Bool, true, false, cond, eqb, List, [], ◌∷◌, ◌++◌, replicate, Some, None, Option, sym, refl, ap, ◌∙◌, subst, ⊎_elim}
-use Rattle.std.proofs.lemmas.Bool.{cases_eq, eq-eqb, ne_eqb}
+use Rattle.std.proofs.Common.{◌≡◌, ℕ, zero, suc, ◌<◌, Bool, true, false, cond, eqb, List, [], ◌∷◌, ◌++◌, replicate, Some, None, Option, sym, refl, ap, ◌∙◌, subst}
+use Rattle.std.proofs.lemmas.Bool.{cond_both, eq-eqb, ne_eqb}
 use Rattle.exclusion.specs.declared.meaning.Notice.{Notice}
 use Rattle.exclusion.specs.declared.meaning.Verdict.{Verdict}
 use Rattle.exclusion.specs.Meaning.{Meaning}
@@ -12,6 +12,7 @@ use Rattle.model.specs.Calls.{ToldIf, Performs, Runs, none, more}
 use Rattle.model.specs.Ledger.{Ledger, Waiting, settle_top, settle_on}
 use Rattle.model.specs.Claims.{HasMeaning, Mark, instruction, instructions_of}
 use Rattle.model.proofs.Calling.{only_own}
+use Rattle.lives.proofs.Nodes.{here_or_else}
 use Rattle.lives.proofs.Standing.{Invariant}
 use Rattle.lives.proofs.Wholes.{whole_elsewhere}
 use Rattle.lives.proofs.Instructing.{Becomes, BySettled, Quiet, Settled, instructed}
@@ -31,11 +32,11 @@ settle_currents packets l c (Some t) x = settled_currents packets l t c (l.waiti
 abbrev pub noted : ℕ → List Mark → (ℕ → List Mark) → ℕ → List Mark
 noted c new marks x = cond (eqb c x) new [] ++ marks x
 
-pub noted_here : (c : ℕ) (new : List Mark) (marks : ℕ → List Mark) → noted c new marks c ≡ new ++ marks c
-noted_here c new marks = ap (λ b. cond b new [] ++ marks c) (eq-eqb c c refl)
-
-pub noted_else : (c : ℕ) (new : List Mark) (marks : ℕ → List Mark) (x : ℕ) → (x ≡ c → ⊥) → noted c new marks x ≡ marks x
-noted_else c new marks x differs = ap (λ b. cond b new [] ++ marks x) (ne_eqb c x (λ same. differs (sym same)))
+-- What holds of that CPU and its longer trace, and of every other CPU and its trace, holds of each CPU.
+pub noted_each : (P : ℕ → List Mark → Type 0) (c : ℕ) (new : List Mark) (marks : ℕ → List Mark) → P c (new ++ marks c) → ((x : ℕ) → (x ≡ c → ⊥) → P x (marks x)) → (x : ℕ) → P x (noted c new marks x)
+noted_each P c new marks here elsewhere =
+    here_or_else (λ x. P x (noted c new marks x)) c (subst (λ b. P c (cond b new [] ++ marks c)) (sym (eq-eqb c c refl)) here)
+    (λ x differs. subst (λ b. P x (cond b new [] ++ marks x)) (sym (ne_eqb c x (λ same. differs (sym same)))) (elsewhere x differs))
 
 noted_more : (c : ℕ) (mark : Mark) (new : List Mark) (marks : ℕ → List Mark) (x : ℕ) → noted c (mark ∷ []) (noted c new marks) x ≡ noted c (mark ∷ new) marks x
 noted_more c mark new marks x = go (eqb c x)
@@ -45,11 +46,7 @@ noted_more c mark new marks x = go (eqb c x)
     go false = refl
 
 noted_none : (c : ℕ) (marks : ℕ → List Mark) (x : ℕ) → marks x ≡ noted c [] marks x
-noted_none c marks x = go (eqb c x)
-  where
-    go : (b : Bool) → marks x ≡ cond b [] [] ++ marks x
-    go true = refl
-    go false = refl
+noted_none c marks x = cond_both (eqb c x) [] [] (λ new. marks x ≡ new ++ marks x) (λ e. refl) (λ e. refl)
 
 -- A machine that is as the ledger has it, with every CPU at its pace.
 pub record Well {E : Type 0} (meaning : E → Meaning) (l : Ledger) (marks : ℕ → List Mark) (m : Core × E) : Type 0 where
@@ -88,15 +85,9 @@ module _ {E : Type 0} (meaning : E → Meaning) (told : E → Notice → E → T
       went_well q = record {
         later = record {
           invariant = q.invariant;
-          paced = λ x.
-              ⊎_elim
-              (λ (same : x ≡ c).
-              subst (λ y. Paced l (meaning k.1) k.0 y (noted c (instruction false ∷ []) marks y)) (sym same)
-              (subst (Paced l (meaning k.1) k.0 c) (sym (noted_here c (instruction false ∷ []) marks))
-              (paced_on l (meaning m.1) (meaning k.1) m.0 k.0 c t (marks c) image_same q.invariant on some q.still q.nearer (well.paced c))))
-              (λ (differs : x ≡ c → ⊥).
-              subst (Paced l (meaning k.1) k.0 x) (sym (noted_else c (instruction false ∷ []) marks x differs))
-              (untouched l l (meaning m.1) (meaning k.1) m.0 k.0 x (marks x) image_same refl (λ s there. thread_else s (apart x s differs there)) (q.patience_else x differs) (well.paced x))) (cases_eq x c);
+          paced = noted_each (Paced l (meaning k.1) k.0) c (instruction false ∷ []) marks
+              (paced_on l (meaning m.1) (meaning k.1) m.0 k.0 c t (marks c) image_same q.invariant on some q.still q.nearer (well.paced c))
+              (λ x differs. untouched l l (meaning m.1) (meaning k.1) m.0 k.0 x (marks x) image_same refl (λ s there. thread_else s (apart x s differs there)) (q.patience_else x differs) (well.paced x));
         };
         still = q.still;
       }
@@ -113,17 +104,12 @@ module _ {E : Type 0} (meaning : E → Meaning) (told : E → Notice → E → T
       settled_well s q = record {
         later = record {
           invariant = q.invariant;
-          paced = λ x.
-              ⊎_elim
-              (λ (same : x ≡ c).
-              subst (λ y. Paced settled_ledger (meaning k.1) k.0 y (noted c (instruction true ∷ []) marks y)) (sym same)
-              (subst (Paced settled_ledger (meaning k.1) k.0 c) (sym (noted_here c (instruction true ∷ []) marks))
+          paced = noted_each (Paced settled_ledger (meaning k.1) k.0) c (instruction true ∷ []) marks
               (paced_anew l settled_ledger (meaning k.1) k.0 c (instruction true) (marks c) (well.paced c).in_eight (well.paced c).in_five refl refl
-              (concerned_same l settled_ledger c (pending (marks c)) (settle_currents m.0.sizes.packets l c (l.current c) c) (well.paced c).concerned) q.invariant q.calm)))
-              (λ (differs : x ≡ c → ⊥).
-              subst (Paced settled_ledger (meaning k.1) k.0 x) (sym (noted_else c (instruction true ∷ []) marks x differs))
-              (untouched l settled_ledger (meaning m.1) (meaning k.1) m.0 k.0 x (marks x) image_same (settle_currents m.0.sizes.packets l c (l.current c) x)
-              (λ s there. thread_else s (apart x s differs there)) (q.patience_else x differs) (well.paced x))) (cases_eq x c);
+              (concerned_same l settled_ledger c (pending (marks c)) (settle_currents m.0.sizes.packets l c (l.current c) c) (well.paced c).concerned) q.invariant q.calm)
+              (λ x differs.
+              untouched l settled_ledger (meaning m.1) (meaning k.1) m.0 k.0 x (marks x) image_same (settle_currents m.0.sizes.packets l c (l.current c) x)
+              (λ s there. thread_else s (apart x s differs there)) (q.patience_else x differs) (well.paced x));
         };
         settling = q.settling;
       }

@@ -1,5 +1,5 @@
 -- What holds of every machine with a past, in the words of restartable sequences.
-use Rattle.std.proofs.Common.{◌≡◌, ℕ, ◌+◌, ◌*◌, ◌<◌, ◌≤◌, cond, ◌&&◌, leb, List, [], map, length, Some, None, sym, ap, ◌∙◌, subst, arith}
+use Rattle.std.proofs.Common.{◌≡◌, ℕ, ◌+◌, ◌*◌, ◌<◌, ◌≤◌, cond, ◌&&◌, leb, List, [], map, length, get_or, set, Some, None, sym, ap, ◌∙◌, subst, arith, get_or-set_same}
 use Rattle.std.proofs.lemmas.Option.{none-some, same_Some}
 use Rattle.std.specs.List.{AllByRecursion}
 use Rattle.image.specs.declared.fields.Sizes.{Sizes}
@@ -13,7 +13,7 @@ use Rattle.model.specs.declared.state.Thread.{Thread}
 use Rattle.model.specs.declared.state.Cpu.{Cpu}
 use Rattle.model.specs.declared.state.Image.{Image}
 use Rattle.model.specs.declared.state.Core.{Core}
-use Rattle.model.specs.State.{thread_at, cpu_at, top_frame, dropped, descriptor_of_operation}
+use Rattle.model.specs.State.{no_cpu, no_thread, thread_at, cpu_at, top_frame, dropped, descriptor_of_operation}
 use Rattle.model.specs.Ledger.{Ledger, Waiting}
 use Rattle.model.specs.Claims.{found}
 use Rattle.lives.proofs.Stacks.{Whole}
@@ -90,6 +90,13 @@ pub record Invariant (l : Ledger) (m : Meaning) (core : Core) : Type 0 where
   pub nodes : (node : ℕ) → found core.sizes l node ≡ cond (leb 1 node && leb node core.sizes.nodes) 1 0
   pub standing : (c : ℕ) → c < core.sizes.cpus → Standing core (m.patience c) c
   pub off_cpu : (t : ℕ) → t < core.sizes.threads → ((c : ℕ) → l.current c ≡ Some t → ⊥) → AllByRecursion (RestartPoint core.image) (frames_of (thread_at core t))
+
+-- A thread and a CPU that the machine has are there when they are written.
+pub thread_written : {l : Ledger} {m : Meaning} {core : Core} {t : ℕ} → Invariant l m core → t < core.sizes.threads → (thread : Thread) → get_or (set core.threads t thread) t no_thread ≡ thread
+thread_written {core = core} {t} inv exists thread = get_or-set_same core.threads t thread no_thread (omega (arith, exists, inv.limits.threads, inv.sixteen_threads))
+
+pub cpu_written : {l : Ledger} {m : Meaning} {core : Core} {c : ℕ} → Invariant l m core → c < core.sizes.cpus → (cpu : Cpu) → get_or (set core.cpus c cpu) c no_cpu ≡ cpu
+cpu_written {core = core} {c} inv exists cpu = get_or-set_same core.cpus c cpu no_cpu (omega (arith, exists, inv.limits.cpus, inv.eight_cpus))
 
 -- How a CPU stands whose thread has an operation.
 pub data StandsThere (m : Meaning) (core : Core) (c t : ℕ) : Type 0 where

@@ -3,7 +3,7 @@ use Rattle.std.proofs.Common.{ℕ, leb, List, [], ◌∷◌, length, Some, None,
 use Rattle.std.proofs.lemmas.Bool.{cond_both}
 use Rattle.model.specs.declared.state.Operation.{Operation}
 use Rattle.model.specs.declared.state.Operation.TheVariants.{Add, Push, Pop, Put, Take}
-use Rattle.model.specs.Ledger.{Ledger, Outcome, Waiting, updated, with_waiting, pushes, pops, takes, does_whole}
+use Rattle.model.specs.Ledger.{Ledger, Outcome, Waiting, updated, with_rings, with_lists_and_hands, with_waiting, pushes, pops, takes, does_whole}
 use Rattle.lives.proofs.Nodes.{updated_else}
 use Rattle.lives.proofs.Keeping.{SameElsewhere}
 
@@ -19,30 +19,26 @@ module _ (packets : ℕ) (l : Ledger) (t c : ℕ) where
     current = λ other. refl;
   }
 
-  pushed_elsewhere : (hand : Option ℕ) → SameElsewhere c t l (pushes packets l t c hand).ledger
-  pushed_elsewhere None = same_ledger
-  pushed_elsewhere (Some node) = record {
+  nodes_elsewhere : (nodes : List ℕ) (hand : Option ℕ) → SameElsewhere c t l (with_lists_and_hands l (updated l.lists c nodes) (updated l.hands t hand))
+  nodes_elsewhere nodes hand = record {
     counters = λ other differs. refl;
-    lists = λ other differs. updated_else l.lists c _ other differs;
+    lists = λ other differs. updated_else l.lists c nodes other differs;
     rings = λ other differs. refl;
-    hands = λ other differs. updated_else l.hands t _ other differs;
+    hands = λ other differs. updated_else l.hands t hand other differs;
     waiting = λ other differs. refl;
     current = λ other. refl;
   }
+
+  pushed_elsewhere : (hand : Option ℕ) → SameElsewhere c t l (pushes packets l t c hand).ledger
+  pushed_elsewhere None = same_ledger
+  pushed_elsewhere (Some node) = nodes_elsewhere _ _
 
   popped_elsewhere : (hand : Option ℕ) (nodes : List ℕ) → SameElsewhere c t l (pops packets l t c hand nodes).ledger
   popped_elsewhere (Some node) nodes = same_ledger
   popped_elsewhere None [] = same_ledger
-  popped_elsewhere None (node ∷ nodes) = record {
-    counters = λ other differs. refl;
-    lists = λ other differs. updated_else l.lists c _ other differs;
-    rings = λ other differs. refl;
-    hands = λ other differs. updated_else l.hands t _ other differs;
-    waiting = λ other differs. refl;
-    current = λ other. refl;
-  }
+  popped_elsewhere None (node ∷ nodes) = nodes_elsewhere _ _
 
-  ring_elsewhere : (ring : List ℕ) → SameElsewhere c t l (record { counters = l.counters; lists = l.lists; rings = updated l.rings c ring; hands = l.hands; current = l.current; waiting = l.waiting })
+  ring_elsewhere : (ring : List ℕ) → SameElsewhere c t l (with_rings l (updated l.rings c ring))
   ring_elsewhere ring = record {
     counters = λ other differs. refl;
     lists = λ other differs. refl;

@@ -19,7 +19,7 @@ use Rattle.model.specs.declared.state.Thread.{Thread}
 use Rattle.model.specs.declared.state.Cpu.{Cpu}
 use Rattle.model.specs.declared.state.Image.{Image}
 use Rattle.model.specs.declared.state.Core.{Core}
-use Rattle.model.specs.State.{no_cpu, no_thread, cpu_at, new_thread, new_cpu, new_core, tabulated}
+use Rattle.model.specs.State.{no_thread, cpu_at, new_thread, new_cpu, new_core, tabulated}
 use Rattle.model.specs.Calls.{section_checks, image_of, booted_core, all_left}
 use Rattle.model.proofs.Booting.{each, each_cpu}
 use Rattle.machine.specs.Sound.{Sound}

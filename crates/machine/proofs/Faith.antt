@@ -24,29 +24,26 @@ module _ {E : Type 0} {meaning : E → Meaning} {told : E → Notice → E → T
   stays m x r k step sizes past life = holds sizes (record { call = x; answer = r } ∷ past) k (lived (record { call = x; answer = r }) life step)
 
   -- The same of a machine as it is seen.
-  pub stays_seen : {i m : Core × E} {x : Call} {r : Answered} {k : Core × E} → i ≡ m → Step told answers i x r k → Step told answers m x r k × StaysFaithful meaning told answers m x r k
-  stays_seen {i} {m} {x} {r} {k} seen step = let does = subst (λ (n : Core × E). Step told answers n x r k) seen step in (does, stays m x r k does)
+  pub stays_seen : {i m : Core × E} {x : Call} {r : Answered} {k : Core × E} → i ≡ m → Step told answers i x r k → StaysFaithful meaning told answers m x r k
+  stays_seen {m = m} {x} {r} {k} seen step = stays m x r k (subst (λ (n : Core × E). Step told answers n x r k) seen step)
 
   pub begins : {sizes : Sizes} (signature : ℕ) (table text : List ℕ) {e : E} {m : Core × E} → Boots told answers meaning sizes signature table text e (Ok m) → BeginsFaithful meaning told answers sizes m
   begins {sizes} signature table text {e} {m} boots = let life = booted signature table text e boots in (life, holds sizes [] m life)
 
   -- What a question tells of the state is what the ledger holds.
   module _ {i m : Core × E} (seen : i ≡ m) where
-    pub counter_told_so : {cpu counter : ℕ} {r : Result ℕ Fault} → r ≡ counter_told i.0 cpu counter → (r ≡ counter_told m.0 cpu counter) × CounterOfTheLedger meaning told answers m cpu counter r
+    pub counter_told_so : {cpu counter : ℕ} {r : Result ℕ Fault} → r ≡ counter_told i.0 cpu counter → CounterOfTheLedger meaning told answers m cpu counter r
     counter_told_so {cpu} {counter} {r} is =
-        let defined = is ∙ ap (λ (n : Core × E). counter_told n.0 cpu counter) seen in
-        (defined, λ sizes past life c k. defined ∙ (holds sizes past m life).questions_tell.counters cpu counter c k)
+        λ sizes past life c k. is ∙ ap (λ (n : Core × E). counter_told n.0 cpu counter) seen ∙ (holds sizes past m life).questions_tell.counters cpu counter c k
 
-    pub hand_told_so : {thread : ℕ} {r : Result (Option ℕ) Fault} → r ≡ hand_told i.0 thread → (r ≡ hand_told m.0 thread) × HandOfTheLedger meaning told answers m thread r
+    pub hand_told_so : {thread : ℕ} {r : Result (Option ℕ) Fault} → r ≡ hand_told i.0 thread → HandOfTheLedger meaning told answers m thread r
     hand_told_so {thread} {r} is =
-        let defined = is ∙ ap (λ (n : Core × E). hand_told n.0 thread) seen in (defined, λ sizes past life t. defined ∙ (holds sizes past m life).questions_tell.hands thread t)
+        λ sizes past life t. is ∙ ap (λ (n : Core × E). hand_told n.0 thread) seen ∙ (holds sizes past m life).questions_tell.hands thread t
 
-    pub list_item_told_so : {cpu position : ℕ} {r : Result (Option ℕ) Fault} → r ≡ list_item_told i.0 cpu position → (r ≡ list_item_told m.0 cpu position) × ListItemOfTheLedger meaning told answers m cpu position r
-    list_item_told_so {cpu} {position} {r} is =
-        let defined = is ∙ ap (λ (n : Core × E). list_item_told n.0 cpu position) seen in
-        (defined, λ sizes past life c. defined ∙ (holds sizes past m life).questions_tell.list_items cpu position c)
+    pub list_item_told_so : {cpu : ℕ} (position : ℕ) {r : Result (Option ℕ) Fault} → r ≡ list_item_told i.0 cpu position → ListItemOfTheLedger meaning told answers m cpu position r
+    list_item_told_so {cpu} position {r} is =
+        λ sizes past life c. is ∙ ap (λ (n : Core × E). list_item_told n.0 cpu position) seen ∙ (holds sizes past m life).questions_tell.list_items cpu position c
 
-    pub ring_item_told_so : {cpu position : ℕ} {r : Result (Option ℕ) Fault} → r ≡ ring_item_told i.0 cpu position → (r ≡ ring_item_told m.0 cpu position) × RingItemOfTheLedger meaning told answers m cpu position r
-    ring_item_told_so {cpu} {position} {r} is =
-        let defined = is ∙ ap (λ (n : Core × E). ring_item_told n.0 cpu position) seen in
-        (defined, λ sizes past life c. defined ∙ (holds sizes past m life).questions_tell.ring_items cpu position c)
+    pub ring_item_told_so : {cpu : ℕ} (position : ℕ) {r : Result (Option ℕ) Fault} → r ≡ ring_item_told i.0 cpu position → RingItemOfTheLedger meaning told answers m cpu position r
+    ring_item_told_so {cpu} position {r} is =
+        λ sizes past life c. is ∙ ap (λ (n : Core × E). ring_item_told n.0 cpu position) seen ∙ (holds sizes past m life).questions_tell.ring_items cpu position c

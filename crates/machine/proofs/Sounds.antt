@@ -10,7 +10,8 @@ use Rattle.model.specs.declared.state.Cpu.{Cpu}
 use Rattle.model.specs.declared.state.Image.{Image}
 use Rattle.model.specs.declared.state.Core.{Core}
 use Rattle.model.specs.State.{no_cpu, no_thread, thread_at, cpu_at, top_frame}
-use Rattle.model.specs.Words.{Effect, by_add, by_put, by_hand, performed}
+use Rattle.model.specs.Words.{Effect, by_add, by_put, performed}
+use Rattle.lives.proofs.Midway.{by_hand_cases}
 use Rattle.machine.specs.Sound.{Sound}
 use Rattle.lives.specs.Apart.{does, does_here, word_here}
 
@@ -41,21 +42,17 @@ module _ (packets : ℕ) (image : Image) (here : ℕ) (thread : Thread) (cpu : C
   kept_put (Put amount) f otherwise p r = p amount
   kept_put Take f otherwise p r = r
 
-  kept_hand : (hand : Option ℕ) (f : ℕ → Effect) (otherwise : Effect) → ((x : ℕ) → Kept (f x)) → Kept otherwise → Kept (by_hand hand f otherwise)
-  kept_hand None f otherwise p r = r
-  kept_hand (Some node) f otherwise p r = p node
-
   kept_word : (operation : Operation) (w : Word) → Kept (does packets image here thread cpu next operation w)
   kept_word operation Enter = (refl, q)
   kept_word operation ReadCpu = (refl, below)
   kept_word operation LoadCounter = kept_add operation _ _ (λ k x. (refl, q)) (refl, q)
   kept_word operation AddAmount = kept_add operation _ _ (λ k x. (refl, q)) (refl, q)
   kept_word operation StoreCounter = kept_add operation _ _ (λ k x. (refl, q)) (refl, q)
-  kept_word operation NeedNode = kept_hand thread.hand _ _ (λ x. (refl, q)) (refl, q)
-  kept_word operation NeedEmptyHand = kept_hand thread.hand _ _ (λ x. (refl, q)) (refl, q)
+  kept_word operation NeedNode = by_hand_cases Kept _ _ thread.hand (λ none. (refl, q)) (λ node some. (refl, q))
+  kept_word operation NeedEmptyHand = by_hand_cases Kept _ _ thread.hand (λ none. (refl, q)) (λ node some. (refl, q))
   kept_word operation LoadListHead = (refl, q)
-  kept_word operation LinkNode = kept_hand thread.hand _ _ (λ x. (refl, q)) (refl, q)
-  kept_word operation PushNode = kept_hand thread.hand _ _ (λ x. (refl, q)) (refl, q)
+  kept_word operation LinkNode = by_hand_cases Kept _ _ thread.hand (λ none. (refl, q)) (λ node some. (refl, q))
+  kept_word operation PushNode = by_hand_cases Kept _ _ thread.hand (λ none. (refl, q)) (λ node some. (refl, q))
   kept_word operation NeedListed = cond_both (eqb thread.a 0) _ _ Kept (λ e. (refl, q)) (λ e. (refl, q))
   kept_word operation LoadNext = (refl, q)
   kept_word operation PopNode = (refl, q)

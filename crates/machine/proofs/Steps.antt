@@ -1,5 +1,5 @@
 -- Instructions one after another.
-use Rattle.std.proofs.Common.{◌≡◌, ℕ, ◌+◌, ◌<◌, true, false, is_some, Some, None, Option, sym, refl, subst, arith}
+use Rattle.std.proofs.Common.{◌≡◌, ℕ, ◌+◌, ◌<◌, true, is_some, Some, None, Option, subst, arith}
 use Rattle.std.proofs.lemmas.Bool.{false≢true}
 use Rattle.exclusion.specs.declared.meaning.Notice.{Notice}
 use Rattle.exclusion.specs.declared.meaning.Verdict.{Verdict}

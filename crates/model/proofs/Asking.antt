@@ -1,11 +1,9 @@
 -- What the questions tell where the structures and hands are the ledger's.
-use Rattle.std.proofs.Common.{◌≡◌, ℕ, zero, suc, ◌+◌, ◌%◌, ◌<◌, ◌≤◌, Bool, true, false, cond, eqb, ltb, List, [], ◌∷◌, length, get_or, Some, None, Ok, Err, sym, ap, ◌∙◌, mod-eq_of_lt, arith}
+use Rattle.std.proofs.Common.{◌≡◌, ℕ, zero, suc, ◌+◌, ◌%◌, ◌<◌, ◌≤◌, Bool, true, false, cond, eqb, ltb, List, [], ◌∷◌, length, get_or, Some, None, Ok, sym, ap, ◌∙◌, mod-eq_of_lt, arith}
 use Rattle.std.proofs.lemmas.Bool.{lt-ltb, eq-eqb, ne_eqb, cond-true}
-use Rattle.faults.specs.declared.Fault.{Fault}
 use Rattle.model.specs.declared.state.Cpu.{Cpu}
-use Rattle.model.specs.State.{thread_at, cpu_at}
-use Rattle.model.specs.Calls.{has_cpu, has_thread}
-use Rattle.model.specs.Questions.{reached, item_there, list_item, ring_item, has_counter, item_at}
+use Rattle.model.specs.State.{cpu_at}
+use Rattle.model.specs.Questions.{reached, item_there, item_at}
 use Rattle.model.specs.Claims.{Listed, InRing}
 use Rattle.model.specs.Laws.{AgreeingQuestionsTell}
 use native.Mathlib.Nat.{mod-add-mod}

@@ -29,24 +29,24 @@ module _ {E : Type 0} (told : E → Notice → E → Type 0) (answers : E → �
   signal_refused m t operation None fault k s = cc
   signal_refused m t operation (Some cpu) fault k s = granted_refused m cpu s.0 (with_frame told answers t operation) fault k s.2
 
-  pub by_operation : (o : Option Operation) (P : Operation → Type 0) (Q : Type 0) → ByOperation told answers o P → ((operation : Operation) → P operation → Q) → Q
+  pub by_operation : (o : Option Operation) (P : Operation → Type 0) (Q : Type 0) → ByOperation told answers o P → ((operation : Operation) → o ≡ Some operation → P operation → Q) → Q
   by_operation None P Q d then = absurd d
-  by_operation (Some operation) P Q d then = then operation d
+  by_operation (Some operation) P Q d then = then operation refl d
 
-  pub by_current : (o : Option ℕ) (P : ℕ → Type 0) (Q : Type 0) → ByCurrent told answers o P → ((t : ℕ) → P t → Q) → Q
+  pub by_current : (o : Option ℕ) (P : ℕ → Type 0) (Q : Type 0) → ByCurrent told answers o P → ((t : ℕ) → o ≡ Some t → P t → Q) → Q
   by_current None P Q d then = absurd d
-  by_current (Some t) P Q d then = then t d
+  by_current (Some t) P Q d then = then t refl d
 
   pub refused_stays : RefusedChangesNothing told answers
   refused_stays m (call.Enlist t raw) fault k s =
       unless m _ (refused fault) k _ s
-      (λ d. by_operation (operation_of m.0.sizes raw) (λ operation. (refused fault ≡ accepted) × (k.0 ≡ with_frame told answers t operation m.0) × (k.1 ≡ m.1)) (k ≡ m) d (λ operation p. cc))
+      (λ d. by_operation (operation_of m.0.sizes raw) (λ operation. (refused fault ≡ accepted) × (k.0 ≡ with_frame told answers t operation m.0) × (k.1 ≡ m.1)) (k ≡ m) d (λ operation is p. cc))
   refused_stays m (call.Run cpu) fault k s =
       unless m _ (refused fault) k _ s
-      (λ d. by_current (cpu_at m.0 cpu).current (λ t. (settling : Option Settling) × (refused fault ≡ ran settling) × Performs told answers m cpu t settling k) (k ≡ m) d (λ t p. cc))
+      (λ d. by_current (cpu_at m.0 cpu).current (λ t. (settling : Option Settling) × (refused fault ≡ ran settling) × Performs told answers m cpu t settling k) (k ≡ m) d (λ t is p. cc))
   refused_stays m (call.Advance cpu n) fault k s =
       unless m _ (refused fault) k _ s
-      (λ d. by_current (cpu_at m.0 cpu).current (λ t. (count : ℕ) × (settling : Option Settling) × (refused fault ≡ advanced count settling) × Stopped told answers n count settling × Runs told answers cpu t count settling m k) (k ≡ m) d (λ t p. cc))
+      (λ d. by_current (cpu_at m.0 cpu).current (λ t. (count : ℕ) × (settling : Option Settling) × (refused fault ≡ advanced count settling) × Stopped told answers n count settling × Runs told answers cpu t count settling m k) (k ≡ m) d (λ t is p. cc))
   refused_stays m (call.Switch cpu t) fault k s =
       unless m _ (refused fault) k ((o : Option Core) × DisturbsCurrent told answers m cpu (cpu_at m.0 cpu).current o × Granted told answers m cpu o (with_current told answers cpu (Some t)) (refused fault) k) s
       (λ d. granted_refused m cpu d.0 (with_current told answers cpu (Some t)) fault k d.2)
@@ -55,7 +55,7 @@ module _ {E : Type 0} (told : E → Notice → E → Type 0) (answers : E → �
       (λ d. granted_refused m cpu d.0 (with_current told answers cpu None) fault k d.2)
   refused_stays m (call.Signal t raw) fault k s =
       unless m _ (refused fault) k _ s
-      (λ d. by_operation (operation_of m.0.sizes raw) (λ operation. Signals told answers m t operation (cpu_of m.0 t) (refused fault) k) (k ≡ m) d (λ operation p. signal_refused m t operation (cpu_of m.0 t) fault k p))
+      (λ d. by_operation (operation_of m.0.sizes raw) (λ operation. Signals told answers m t operation (cpu_of m.0 t) (refused fault) k) (k ≡ m) d (λ operation is p. signal_refused m t operation (cpu_of m.0 t) fault k p))
 
 pub only_q : OnlyTheStructuresOfQ
 only_q core cpu t c ne = get_or-set_other core.cpus (thread_at core t).q c _ no_cpu ne

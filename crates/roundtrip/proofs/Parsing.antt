@@ -1,7 +1,6 @@
 -- Numbers and fields where they stand: what is written there is read, and what is read was written there.
-use Rattle.std.proofs.Common.{◌≡◌, ℕ, ◌+◌, ◌^◌, ◌<◌, ◌≤◌, Bool, true, false, cond, List, [], ◌∷◌, ◌++◌, length, drop, Ok, Err, Result, sym, refl, ap, ◌∙◌, subst₂, append_assoc, arith, length-append}
+use Rattle.std.proofs.Common.{◌≡◌, ℕ, ◌+◌, ◌^◌, ◌<◌, ◌≤◌, Bool, true, false, cond, List, [], ◌∷◌, ◌++◌, length, drop, Ok, Err, sym, refl, ap, ◌∙◌, subst, append_assoc, arith, length-append}
 use Rattle.std.proofs.lemmas.List.{drop-drop, drop_at}
-use Rattle.faults.specs.declared.Fault.{Fault}
 use Rattle.numbers.specs.Spelling.{Bytes, spelling}
 use Rattle.numbers.specs.Reading.{number_at}
 use Rattle.numbers.proofs.Spelled.{read_there, was_there}
@@ -27,24 +26,13 @@ pub record Split {X Y : Type 0} (r : Read X) (next : X → ℕ → Read Y) (z : 
   pub first : r ≡ Ok (value, at)
   pub second : next value at ≡ Ok z
 
-pub err_no_ok : {X P : Type 0} {f : Fault} {x : X} → ◌≡◌ {A = Result X Fault} (Err f) (Ok x) → P
-err_no_ok e = cc
-
 pub split : {X Y : Type 0} (r : Read X) (next : X → ℕ → Read Y) (z : Y × ℕ) → and_then r next ≡ Ok z → Split r next z
 split (Ok p) next z e = record { value = p.0; at = p.1; first = refl; second = e }
-split (Err f) next z e = err_no_ok e
+split (Err f) next z e = cc
 
-pub same_value : {X : Type 0} {x y : X} {m n : ℕ} → ◌≡◌ {A = Read X} (Ok (x, m)) (Ok (y, n)) → x ≡ y
-same_value e = ap (λ p. p.0) (same e)
-  where
-    same : {A : Type 0} {a b : A} → ◌≡◌ {A = Result A Fault} (Ok a) (Ok b) → a ≡ b
-    same p = cc
-
-pub same_place : {X : Type 0} {x y : X} {m n : ℕ} → ◌≡◌ {A = Read X} (Ok (x, m)) (Ok (y, n)) → m ≡ n
-same_place e = ap (λ p. p.1) (same e)
-  where
-    same : {A : Type 0} {a b : A} → ◌≡◌ {A = Result A Fault} (Ok a) (Ok b) → a ≡ b
-    same p = cc
+-- What holds of one answer holds of the same answer.
+pub as_read : {X : Type 0} (P : X → ℕ → Type 0) {x y : X} {m n : ℕ} → ◌≡◌ {A = Read X} (Ok (x, m)) (Ok (y, n)) → P x m → P y n
+as_read {X} P {x} {y} {m} {n} e p = let same : ◌≡◌ {A = X × ℕ} (x, m) (y, n) = cc in subst (λ q. P q.0 q.1) same p
 
 -- A field within its limits.
 accepted : (p : ℕ × ℕ) (at : ℕ) (check : Check) → check.passes ≡ true → refused_by_boot at (first_failing p (check ∷ [])) ≡ Ok p
@@ -53,12 +41,9 @@ accepted p at check e = ap (λ t. refused_by_boot at (cond t (Ok p) (Err check.f
 passed : (p q : ℕ × ℕ) (at : ℕ) (check : Check) → refused_by_boot at (first_failing p (check ∷ [])) ≡ Ok q → (check.passes ≡ true) × (p ≡ q)
 passed p q at check e = go check.passes refl e
   where
-    same : ◌≡◌ {A = Result (ℕ × ℕ) Fault} (Ok p) (Ok q) → p ≡ q
-    same h = cc
-
     go : (t : Bool) → check.passes ≡ t → refused_by_boot at (cond t (Ok p) (Err check.fault)) ≡ Ok q → (check.passes ≡ true) × (p ≡ q)
-    go true b h = (b, same h)
-    go false b h = err_no_ok h
+    go true b h = (b, cc)
+    go false b h = cc
 
 -- What is read where it was written, and what follows there.
 pub record ReadsThere {X : Type 0} (r : Read X) (x : X) (bytes : List ℕ) (at k : ℕ) (rest : List ℕ) : Type 0 where
@@ -110,10 +95,8 @@ module _ (bytes : List ℕ) (at n next : ℕ) (ok : Bytes bytes) where
   checked_stood check e =
       let s = split (number_at bytes at) (λ m there. refused_by_boot at (first_failing (m, there) (check m ∷ []))) (n, next) e in
       let p = passed (s.value, s.at) (n, next) at (check s.value) s.second in
-      let value = ap (λ q. q.0) p.1 in
-      let place = ap (λ q. q.1) p.1 in
       let stood = number_stood bytes at s.value s.at ok s.first in
-      (ap (λ m. (check m).passes) (sym value) ∙ p.0, subst₂ (λ m there. Stands bytes at (spelling m) there) value place stood.1)
+      subst (λ q. ((check q.0).passes ≡ true) × Stands bytes at (spelling q.0) q.1) p.1 (p.0, stood.1)
 
   pub field_stood : (field : Field) → field_at bytes at field ≡ Ok (n, next) → Within field n × Stands bytes at (spelling n) next
   field_stood field e = let c = checked_stood (field_check field) e in (between_parts (least field) (largest field) n c.0, c.1)
@@ -125,8 +108,5 @@ module _ (bytes : List ℕ) (at n next : ℕ) (ok : Bytes bytes) where
 pub stands_then : {bytes : List ℕ} {at mid next : ℕ} {these those : List ℕ} → Stands bytes at these mid → Stands bytes mid those next → Stands bytes at (these ++ those) next
 stands_then {bytes} {at} {mid} {next} {these} {those} s t = record {
   there = s.there ∙ ap (λ x. these ++ x) t.there ∙ sym (append_assoc these those (drop next bytes));
-  behind = t.behind ∙ ap (λ k. k + length those) s.behind ∙ sum;
+  behind = t.behind ∙ ap (λ k. k + length those) s.behind ∙ omega (arith, length-append these those);
 }
-  where
-    sum : at + length these + length those ≡ at + length (these ++ those)
-    sum = omega (arith, length-append these those)

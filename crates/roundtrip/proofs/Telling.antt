@@ -119,28 +119,6 @@ header_back job rest t short =
     ∙ ap (λ b. cond b (parts_at bytes 1) (Err (fault_at EndsInside 0))) (lt-ltb 0 (length bytes) (omega arith))
     ∙ parts_there bytes 1 job rest t refl ∙ ap (λ k. Ok (job, k)) (omega arith)
 
--- A letter that stands at an offset.
-record LetterThere (bytes : List ℕ) (first letter : ℕ) (rest : List ℕ) : Type 0 where
-  within : first < length bytes
-  is : get_or bytes first 0 ≡ letter
-  onward : drop (first + 1) bytes ≡ rest
-
-letter_there : (bytes : List ℕ) (first letter : ℕ) (rest : List ℕ) → drop first bytes ≡ letter ∷ rest → LetterThere bytes first letter rest
-letter_there bytes first letter rest e =
-    let long = length-drop first bytes in
-    let more = ap length e in
-    let here : first + 0 ≡ first = omega arith in
-    record {
-      within = omega arith;
-      is = ap (λ k. get_or bytes k 0) (sym here) ∙ sym (get_or-drop first bytes 0 0) ∙ ap (λ xs. get_or xs 0 0) e;
-      onward = behind_it bytes first (letter ∷ []) rest e;
-    }
-
-call_of : (bytes : List ℕ) (first letter : ℕ) (rest : List ℕ) → LetterThere bytes first letter rest → call_at bytes first ≡ call_by letter bytes first (first + 1)
-call_of bytes first letter rest l =
-    ap (λ b. cond b (call_by (get_or bytes first 0) bytes first (first + 1)) (Err (fault_at EndsInside first))) (lt-ltb first (length bytes) l.within)
-    ∙ ap (λ n. call_by n bytes first (first + 1)) l.is
-
 operation_there : (bytes : List ℕ) (at : ℕ) (operation : RawOperation) (rest : List ℕ) → TellableOperation operation → drop at bytes ≡ written_operation operation ++ rest
     → ReadsThere (operation_at bytes at) operation bytes at (length (written_operation operation)) rest
 operation_there bytes at operation rest t e =
@@ -153,50 +131,41 @@ operation_there bytes at operation rest t e =
       onward = behind_it bytes at (written_operation operation) rest e;
     }
 
--- A call with one operand, with two numbers, and with a number and an operation.
+-- A call with one operand, and with a number and a second operand of any kind.
 one_operand : (bytes : List ℕ) (at n : ℕ) (rest : List ℕ) (make : ℕ → Call) → n < 2 ^ 64 → drop at bytes ≡ spelling n ++ rest
     → and_then (number_at bytes at) (λ m next. Ok (make m, next)) ≡ Ok (make n, at + length (spelling n))
 one_operand bytes at n rest make h e = then_ok _ _ (number_there bytes at n rest h e).answer
 
-two_operands : (bytes : List ℕ) (at m n : ℕ) (rest : List ℕ) (make : ℕ → ℕ → Call) → m < 2 ^ 64 → n < 2 ^ 64 → drop at bytes ≡ (spelling m ++ spelling n) ++ rest
-    → and_then (number_at bytes at) (λ i next. and_then (number_at bytes next) (λ j end. Ok (make i j, end))) ≡ Ok (make m n, at + length (spelling m ++ spelling n))
-two_operands bytes at m n rest make h k e =
-    let n1 = number_there bytes at m (spelling n ++ rest) h (e ∙ append_assoc (spelling m) (spelling n) rest) in
-    let n2 = number_there bytes _ n rest k n1.onward in
-    then_ok _ _ n1.answer ∙ then_ok _ _ n2.answer ∙ ap (λ x. Ok (make m n, x)) (simp length-append (omega arith))
+two_operands : {B : Type 0} (bytes : List ℕ) (second : ℕ → Read B) (spelled : B → List ℕ) (at n : ℕ) (b : B) (rest : List ℕ) (make : ℕ → B → Call) → n < 2 ^ 64
+    → ((there : ℕ) → drop there bytes ≡ spelled b ++ rest → ReadsThere (second there) b bytes there (length (spelled b)) rest) → drop at bytes ≡ (spelling n ++ spelled b) ++ rest
+    → and_then (number_at bytes at) (λ i next. and_then (second next) (λ o end. Ok (make i o, end))) ≡ Ok (make n b, at + length (spelling n ++ spelled b))
+two_operands bytes second spelled at n b rest make h reads e =
+    let n1 = number_there bytes at n (spelled b ++ rest) h (e ∙ append_assoc (spelling n) (spelled b) rest) in
+    let n2 = reads _ n1.onward in
+    then_ok _ _ n1.answer ∙ then_ok _ _ n2.answer ∙ ap (λ x. Ok (make n b, x)) (omega (arith, length-append (spelling n) (spelled b)))
 
-with_operation : (bytes : List ℕ) (at thread : ℕ) (operation : RawOperation) (rest : List ℕ) (make : ℕ → RawOperation → Call) → thread < 2 ^ 64 → TellableOperation operation
-    → drop at bytes ≡ (spelling thread ++ written_operation operation) ++ rest
-    → and_then (number_at bytes at) (λ i next. and_then (operation_at bytes next) (λ o end. Ok (make i o, end))) ≡ Ok (make thread operation, at + length (spelling thread ++ written_operation operation))
-with_operation bytes at thread operation rest make h t e =
-    let n1 = number_there bytes at thread (written_operation operation ++ rest) h (e ∙ append_assoc (spelling thread) (written_operation operation) rest) in
-    let n2 = operation_there bytes _ operation rest t n1.onward in
-    then_ok _ _ n1.answer ∙ then_ok _ _ n2.answer
-    ∙ ap (λ x. Ok (make thread operation, x)) (omega (arith, length-append (spelling thread) (written_operation operation)))
-
--- The offset behind a letter and what follows it.
-behind_letter : (call : Call) (first k : ℕ) (r : Read Call) → r ≡ Ok (call, first + 1 + k) → r ≡ Ok (call, first + suc k)
-behind_letter call first k r e = e ∙ ap (λ x. Ok (call, x)) (omega arith)
+-- A letter, and the operands behind it.
+lettered : (bytes : List ℕ) (first letter : ℕ) (rest : List ℕ) {call : Call} (k : ℕ) → drop first bytes ≡ letter ∷ rest
+    → (drop (first + 1) bytes ≡ rest → call_by letter bytes first (first + 1) ≡ Ok (call, first + 1 + k)) → call_at bytes first ≡ Ok (call, first + suc k)
+lettered bytes first letter rest {call} k e reads =
+    let long = length-drop first bytes in
+    let more = ap length e in
+    let here : first + 0 ≡ first = omega arith in
+    ap (λ b. cond b (call_by (get_or bytes first 0) bytes first (first + 1)) (Err (fault_at EndsInside first))) (lt-ltb first (length bytes) (omega arith))
+    ∙ ap (λ n. call_by n bytes first (first + 1)) (ap (λ i. get_or bytes i 0) (sym here) ∙ sym (get_or-drop first bytes 0 0) ∙ ap (λ xs. get_or xs 0 0) e)
+    ∙ reads (behind_it bytes first (letter ∷ []) rest e) ∙ ap (λ x. Ok (call, x)) (omega arith)
 
 pub call_there : (bytes : List ℕ) (first : ℕ) (call : Call) (rest : List ℕ) → Tellable call → drop first bytes ≡ written_call call ++ rest → call_at bytes first ≡ Ok (call, first + length (written_call call))
 call_there bytes first (Enlist thread operation) rest t e =
-    let l = letter_there bytes first 101 _ e in
-    call_of bytes first 101 _ l ∙ behind_letter _ first _ _ (with_operation bytes (first + 1) thread operation rest Enlist t.0 t.1 l.onward)
-call_there bytes first (Run cpu) rest t e =
-    let l = letter_there bytes first 114 _ e in
-    call_of bytes first 114 _ l ∙ behind_letter _ first _ _ (one_operand bytes (first + 1) cpu rest Run t l.onward)
+    lettered bytes first 101 _ _ e (two_operands bytes (operation_at bytes) written_operation (first + 1) thread operation rest Enlist t.0 (λ there. operation_there bytes there operation rest t.1))
+call_there bytes first (Run cpu) rest t e = lettered bytes first 114 _ _ e (one_operand bytes (first + 1) cpu rest Run t)
 call_there bytes first (Advance cpu instructions) rest t e =
-    let l = letter_there bytes first 97 _ e in
-    call_of bytes first 97 _ l ∙ behind_letter _ first _ _ (two_operands bytes (first + 1) cpu instructions rest Advance t.0 t.1 l.onward)
+    lettered bytes first 97 _ _ e (two_operands bytes (number_at bytes) spelling (first + 1) cpu instructions rest Advance t.0 (λ there. number_there bytes there instructions rest t.1))
 call_there bytes first (Switch cpu thread) rest t e =
-    let l = letter_there bytes first 115 _ e in
-    call_of bytes first 115 _ l ∙ behind_letter _ first _ _ (two_operands bytes (first + 1) cpu thread rest Switch t.0 t.1 l.onward)
-call_there bytes first (Idle cpu) rest t e =
-    let l = letter_there bytes first 105 _ e in
-    call_of bytes first 105 _ l ∙ behind_letter _ first _ _ (one_operand bytes (first + 1) cpu rest Idle t l.onward)
+    lettered bytes first 115 _ _ e (two_operands bytes (number_at bytes) spelling (first + 1) cpu thread rest Switch t.0 (λ there. number_there bytes there thread rest t.1))
+call_there bytes first (Idle cpu) rest t e = lettered bytes first 105 _ _ e (one_operand bytes (first + 1) cpu rest Idle t)
 call_there bytes first (Signal thread operation) rest t e =
-    let l = letter_there bytes first 103 _ e in
-    call_of bytes first 103 _ l ∙ behind_letter _ first _ _ (with_operation bytes (first + 1) thread operation rest Signal t.0 t.1 l.onward)
+    lettered bytes first 103 _ _ e (two_operands bytes (operation_at bytes) written_operation (first + 1) thread operation rest Signal t.0 (λ there. operation_there bytes there operation rest t.1))
 
 some_byte : (call : Call) → 0 < length (written_call call)
 some_byte (Enlist thread operation) = omega arith

@@ -18,7 +18,7 @@ use Rattle.image.specs.declared.text.Text.{Text}
 use Rattle.schedule.specs.Format.{written_numbers, exclusion_number, words_of, padded, written_job, written_operation, written_call, Within, TellableJob, TellableOperation, Tellable}
 use Rattle.schedule.specs.Reading.{Read, and_then, field_at, sizes_at, table_at, words_at, padded_words_at, word_count_at, text_at, exclusion_of, parts_at, operation_at, call_by, call_at}
 use Rattle.roundtrip.specs.Laws.{HeaderWasWritten, CallWasWritten}
-use Rattle.roundtrip.proofs.Parsing.{Stands, split, err_no_ok, same_value, same_place, number_stood, field_stood, count_stood, stands_then}
+use Rattle.roundtrip.proofs.Parsing.{Stands, split, as_read, number_stood, field_stood, count_stood, stands_then}
 
 -- Words.
 pub record WordsStood (bytes : List ℕ) (k at : ℕ) (words : List ℕ) (next : ℕ) : Type 0 where
@@ -29,29 +29,27 @@ pub record WordsStood (bytes : List ℕ) (k at : ℕ) (words : List ℕ) (next :
 words_stood : (k : ℕ) (bytes : List ℕ) (at : ℕ) (words : List ℕ) (next : ℕ) → Bytes bytes → words_at k bytes at ≡ Ok (words, next) → WordsStood bytes k at words next
 unfolding words_at
 words_stood zero bytes at words next ok e =
-    subst (λ ws. WordsStood bytes 0 at ws next) (same_value e)
-    (record { many = refl; within = tt; stand = record { there = ap (λ n. drop n bytes) (same_place e); behind = sym (same_place e) ∙ sym (add-zero at) } })
+    as_read (WordsStood bytes 0 at) e (record { many = refl; within = tt; stand = record { there = refl; behind = sym (add-zero at) } })
 words_stood (suc k) bytes at words next ok e =
     let s = split (field_at bytes at TextWord) _ (words, next) e in
     let t = split (words_at k bytes s.at) _ (words, next) s.second in
     let f = field_stood bytes at s.value s.at ok TextWord s.first in
     let rest = words_stood k bytes s.at t.value t.at ok t.first in
     let small : s.value ≤ 4294967295 = f.0.1 in
-    subst (λ n. WordsStood bytes (suc k) at words n) (same_place t.second) (subst (λ ws. WordsStood bytes (suc k) at ws t.at) (same_value t.second)
-    (record { many = ap suc rest.many; within = (omega arith, rest.within); stand = stands_then f.1 rest.stand }))
+    as_read (WordsStood bytes (suc k) at) t.second (record { many = ap suc rest.many; within = (omega arith, rest.within); stand = stands_then f.1 rest.stand })
 
 -- The table.
 table_stood : (bytes : List ℕ) (at : ℕ) (table : List ℕ) (next : ℕ) → table_at bytes at ≡ Ok (table, next) → (length table ≡ 160) × Stands bytes at table next
 table_stood bytes at table next e = go (ltb (length bytes) (at + 160)) refl e
   where
     go : (t : Bool) → ltb (length bytes) (at + 160) ≡ t → cond {A = Read (List ℕ)} t (Err (fault_at EndsInside (length bytes))) (Ok (take 160 (drop at bytes), at + 160)) ≡ Ok (table, next) → (length table ≡ 160) × Stands bytes at table next
-    go true b h = err_no_ok h
+    go true b h = cc
     go false b h =
         let room : at + 160 ≤ length bytes = ltb-false (length bytes) (at + 160) b in
         let left = length-drop at bytes in
         let long : length (take 160 (drop at bytes)) ≡ 160 = length-take 160 (drop at bytes) ∙ omega arith in
-        subst (λ n. (length table ≡ 160) × Stands bytes at table n) (same_place h) (subst (λ t. (length t ≡ 160) × Stands bytes at t (at + 160)) (same_value h)
-        (long, record { there = sym (take-append-drop 160 (drop at bytes)) ∙ ap (λ x. take 160 (drop at bytes) ++ x) (drop-drop 160 at bytes); behind = ap (λ k. at + k) (sym long) }))
+        as_read (λ t n. (length t ≡ 160) × Stands bytes at t n) h
+        (long, record { there = sym (take-append-drop 160 (drop at bytes)) ∙ ap (λ x. take 160 (drop at bytes) ++ x) (drop-drop 160 at bytes); behind = ap (λ k. at + k) (sym long) })
 
 -- Sizes.
 abbrev sizes_written : Sizes → List ℕ → List ℕ
@@ -77,7 +75,7 @@ sizes_stood bytes at sizes next ok e =
     let f3 = field_stood bytes s2.at s3.value s3.at ok Nodes s3.first in
     let f4 = field_stood bytes s3.at s4.value s4.at ok Packets s4.first in
     let f5 = field_stood bytes s4.at s5.value s5.at ok Counters s5.first in
-    subst (λ n. SizesStood bytes at sizes n) (same_place s5.second) (subst (λ s. SizesStood bytes at s s5.at) (same_value s5.second)
+    as_read (SizesStood bytes at) s5.second
     (record {
       cpus_within = f1.0;
       threads_within = f2.0;
@@ -85,7 +83,7 @@ sizes_stood bytes at sizes next ok e =
       packets_within = f4.0;
       counters_within = f5.0;
       stand = λ rest end r. stands_then f1.1 (stands_then f2.1 (stands_then f3.1 (stands_then f4.1 (stands_then f5.1 r))));
-    }))
+    })
 
 -- The text.
 pub record TextStood (bytes : List ℕ) (at : ℕ) (text : Text) (next : ℕ) : Type 0 where
@@ -120,8 +118,7 @@ text_stood bytes at text next ok e =
     let c = count_stood bytes at s1.value s1.at ok s1.first in
     let w = words_stood s1.value bytes s1.at s3.value s3.at ok s3.first in
     let whole = of_words bytes at s1.value s1.at s3.value s3.at c.0 c.1 w in
-    let text_is : record { words = padded s3.value; count = s1.value } ≡ text = ap (λ ws. record { words = ws; count = s1.value }) (same_value s3.second) ∙ same_value s2.second in
-    subst (TextStood bytes at text) (same_place s3.second ∙ same_place s2.second) (subst (λ t. TextStood bytes at t s3.at) text_is whole)
+    as_read (TextStood bytes at) s2.second (as_read (λ ws. TextStood bytes at (record { words = ws; count = s1.value })) s3.second whole)
 
 -- The parts of a job.
 exclusion_told : (n : ℕ) → Within Exclusion n → exclusion_number (exclusion_of n) ≡ n
@@ -152,7 +149,7 @@ parts_stood bytes at job next ok e =
     let grace_small : s2.value < 256 = omega (arith, f2.0.1) in
     let signature_small : s4.value < 2 ^ 32 = omega (arith, f4.0.1) in
     let named = exclusion_told s1.value f1.0 in
-    subst (JobStood bytes at job) (same_place s6.second) (subst (λ j. JobStood bytes at j s6.at) (same_value s6.second)
+    as_read (JobStood bytes at) s6.second
     (record {
       tellable = record {
         grace_within = grace_small;
@@ -170,7 +167,7 @@ parts_stood bytes at job next ok e =
         words_within = f6.words_within;
       };
       stand = stands_then (subst (λ n. Stands bytes at (spelling n) s1.at) (sym named) f1.1) (stands_then f2.1 (f3.stand _ _ (stands_then f4.1 (stands_then f5.1 f6.stand))));
-    }))
+    })
 
 -- A letter.
 letter_stood : (bytes : List ℕ) (first letter : ℕ) → first < length bytes → get_or bytes first 0 ≡ letter → Stands bytes first (letter ∷ []) (first + 1)
@@ -187,17 +184,17 @@ header_was_written bytes job next ok e = long (ltb 32768 (length bytes)) refl e
         let parts = parts_stood bytes 1 job next ok h in
         let whole = stands_then (letter_stood bytes 0 74 some (eqb-true (get_or bytes 0 0) 74 b)) parts.stand in
         (parts.tellable, short, whole.there, whole.behind ∙ omega arith)
-    letter short some false b h = err_no_ok h
+    letter short some false b h = cc
 
     empty : length bytes ≤ 32768 → (t : Bool) → ltb 0 (length bytes) ≡ t
         → cond t (cond (eqb (get_or bytes 0 0) 74) (parts_at bytes 1) (Err (fault_at UnknownLetter 0))) (Err (fault_at EndsInside 0)) ≡ Ok (job, next) → Whole
     empty short true b h = letter short (ltb-true 0 (length bytes) b) (eqb (get_or bytes 0 0) 74) refl h
-    empty short false b h = err_no_ok h
+    empty short false b h = cc
 
     long : (t : Bool) → ltb 32768 (length bytes) ≡ t
         → cond t (Err (fault_at EndsInside 32768)) (cond (ltb 0 (length bytes)) (cond (eqb (get_or bytes 0 0) 74) (parts_at bytes 1) (Err (fault_at UnknownLetter 0))) (Err (fault_at EndsInside 0))) ≡ Ok (job, next)
         → Whole
-    long true b h = err_no_ok h
+    long true b h = cc
     long false b h = empty (ltb-false 32768 (length bytes) b) (ltb 0 (length bytes)) refl h
 
 -- Operands.
@@ -214,9 +211,7 @@ operation_stood bytes at operation next ok e =
     let n1 = number_stood bytes at s1.value s1.at ok s1.first in
     let n2 = number_stood bytes s1.at s2.value s2.at ok s2.first in
     let n3 = number_stood bytes s2.at s3.value s3.at ok s3.first in
-    subst (λ n. TellableOperation operation × Stands bytes at (written_operation operation) n) (same_place s3.second)
-    (subst (λ o. TellableOperation o × Stands bytes at (written_operation o) s3.at) (same_value s3.second)
-    ((n1.0, n2.0, n3.0), stands_then n1.1 (stands_then n2.1 n3.1)))
+    as_read (λ o n. TellableOperation o × Stands bytes at (written_operation o) n) s3.second ((n1.0, n2.0, n3.0), stands_then n1.1 (stands_then n2.1 n3.1))
 
 module _ (bytes : List ℕ) (first : ℕ) (call : Call) (next : ℕ) (ok : Bytes bytes) where
   abbrev ResultStood : Type 0
@@ -227,29 +222,19 @@ module _ (bytes : List ℕ) (first : ℕ) (call : Call) (next : ℕ) (ok : Bytes
   of_one letter make fits written l e =
       let s = split (number_at bytes (first + 1)) _ (call, next) e in
       let n = number_stood bytes (first + 1) s.value s.at ok s.first in
-      subst (CallStood bytes first call) (same_place s.second) (subst (λ c. CallStood bytes first c s.at) (same_value s.second)
-      (record { tellable = fits s.value n.0; stand = subst (λ w. Stands bytes first w s.at) (sym (written s.value)) (stands_then l n.1) }))
+      as_read (CallStood bytes first) s.second (record { tellable = fits s.value n.0; stand = subst (λ w. Stands bytes first w s.at) (sym (written s.value)) (stands_then l n.1) })
 
-  of_two : (letter : ℕ) (make : ℕ → ℕ → Call) → ((m n : ℕ) → m < 2 ^ 64 → n < 2 ^ 64 → Tellable (make m n)) → ((m n : ℕ) → written_call (make m n) ≡ letter ∷ (spelling m ++ spelling n))
-      → Stands bytes first (letter ∷ []) (first + 1) → and_then (number_at bytes (first + 1)) (λ m at. and_then (number_at bytes at) (λ n at. Ok (make m n, at))) ≡ Ok (call, next) → ResultStood
-  of_two letter make fits written l e =
+  -- A number, and a second operand of any kind.
+  of_two : {B : Type 0} (second : ℕ → Read B) (spelled : B → List ℕ) (Fits : B → Type 0) → ((at : ℕ) (b : B) (end : ℕ) → second at ≡ Ok (b, end) → Fits b × Stands bytes at (spelled b) end)
+      → (letter : ℕ) (make : ℕ → B → Call) → ((n : ℕ) (b : B) → n < 2 ^ 64 → Fits b → Tellable (make n b)) → ((n : ℕ) (b : B) → written_call (make n b) ≡ letter ∷ (spelling n ++ spelled b))
+      → Stands bytes first (letter ∷ []) (first + 1) → and_then (number_at bytes (first + 1)) (λ n at. and_then (second at) (λ b at. Ok (make n b, at))) ≡ Ok (call, next) → ResultStood
+  of_two second spelled Fits stood letter make fits written l e =
       let s1 = split (number_at bytes (first + 1)) _ (call, next) e in
-      let s2 = split (number_at bytes s1.at) _ (call, next) s1.second in
+      let s2 = split (second s1.at) _ (call, next) s1.second in
       let n1 = number_stood bytes (first + 1) s1.value s1.at ok s1.first in
-      let n2 = number_stood bytes s1.at s2.value s2.at ok s2.first in
-      subst (CallStood bytes first call) (same_place s2.second) (subst (λ c. CallStood bytes first c s2.at) (same_value s2.second)
-      (record { tellable = fits s1.value s2.value n1.0 n2.0; stand = subst (λ w. Stands bytes first w s2.at) (sym (written s1.value s2.value)) (stands_then l (stands_then n1.1 n2.1)) }))
-
-  of_operation : (letter : ℕ) (make : ℕ → RawOperation → Call) → ((n : ℕ) (o : RawOperation) → n < 2 ^ 64 → TellableOperation o → Tellable (make n o))
-      → ((n : ℕ) (o : RawOperation) → written_call (make n o) ≡ letter ∷ (spelling n ++ written_operation o))
-      → Stands bytes first (letter ∷ []) (first + 1) → and_then (number_at bytes (first + 1)) (λ n at. and_then (operation_at bytes at) (λ o at. Ok (make n o, at))) ≡ Ok (call, next) → ResultStood
-  of_operation letter make fits written l e =
-      let s1 = split (number_at bytes (first + 1)) _ (call, next) e in
-      let s2 = split (operation_at bytes s1.at) _ (call, next) s1.second in
-      let n1 = number_stood bytes (first + 1) s1.value s1.at ok s1.first in
-      let n2 = operation_stood bytes s1.at s2.value s2.at ok s2.first in
-      subst (CallStood bytes first call) (same_place s2.second) (subst (λ c. CallStood bytes first c s2.at) (same_value s2.second)
-      (record { tellable = fits s1.value s2.value n1.0 n2.0; stand = subst (λ w. Stands bytes first w s2.at) (sym (written s1.value s2.value)) (stands_then l (stands_then n1.1 n2.1)) }))
+      let n2 = stood s1.at s2.value s2.at s2.first in
+      as_read (CallStood bytes first) s2.second
+      (record { tellable = fits s1.value s2.value n1.0 n2.0; stand = subst (λ w. Stands bytes first w s2.at) (sym (written s1.value s2.value)) (stands_then l (stands_then n1.1 n2.1)) })
 
   -- One letter after the other is tried.
   by_letter : (letter : ℕ) (this other : Read Call) → first < length bytes → (this ≡ Ok (call, next) → Stands bytes first (letter ∷ []) (first + 1) → ResultStood) → (other ≡ Ok (call, next) → ResultStood)
@@ -265,17 +250,17 @@ module _ (bytes : List ℕ) (first : ℕ) (call : Call) (next : ℕ) (ok : Bytes
     where
       letters : first < length bytes → call_by (get_or bytes first 0) bytes first (first + 1) ≡ Ok (call, next) → ResultStood
       letters h q =
-          by_letter 101 _ _ h (λ p l. of_operation 101 Enlist (λ n o s t. (s, t)) (λ n o. refl) l p)
+          by_letter 101 _ _ h (λ p l. of_two (operation_at bytes) written_operation TellableOperation (λ at o end. operation_stood bytes at o end ok) 101 Enlist (λ n o s t. (s, t)) (λ n o. refl) l p)
           (by_letter 114 _ _ h (λ p l. of_one 114 Run (λ n s. s) (λ n. refl) l p)
-          (by_letter 97 _ _ h (λ p l. of_two 97 Advance (λ m n s t. (s, t)) (λ m n. refl) l p)
-          (by_letter 115 _ _ h (λ p l. of_two 115 Switch (λ m n s t. (s, t)) (λ m n. refl) l p)
+          (by_letter 97 _ _ h (λ p l. of_two (number_at bytes) spelling (λ n. n < 2 ^ 64) (λ at n end. number_stood bytes at n end ok) 97 Advance (λ m n s t. (s, t)) (λ m n. refl) l p)
+          (by_letter 115 _ _ h (λ p l. of_two (number_at bytes) spelling (λ n. n < 2 ^ 64) (λ at n end. number_stood bytes at n end ok) 115 Switch (λ m n s t. (s, t)) (λ m n. refl) l p)
           (by_letter 105 _ _ h (λ p l. of_one 105 Idle (λ n s. s) (λ n. refl) l p)
-          (by_letter 103 _ _ h (λ p l. of_operation 103 Signal (λ n o s t. (s, t)) (λ n o. refl) l p)
-          (λ p. err_no_ok p)))))) q
+          (by_letter 103 _ _ h (λ p l. of_two (operation_at bytes) written_operation TellableOperation (λ at o end. operation_stood bytes at o end ok) 103 Signal (λ n o s t. (s, t)) (λ n o. refl) l p)
+          (λ p. cc)))))) q
 
       go : (t : Bool) → ltb first (length bytes) ≡ t → cond t (call_by (get_or bytes first 0) bytes first (first + 1)) (Err (fault_at EndsInside first)) ≡ Ok (call, next) → ResultStood
       go true b q = letters (ltb-true first (length bytes) b) q
-      go false b q = err_no_ok q
+      go false b q = cc
 
 pub call_was_written : CallWasWritten
 call_was_written bytes first call next ok e = let s = call_stood bytes first call next ok e in (s.tellable, s.stand.there, s.stand.behind)

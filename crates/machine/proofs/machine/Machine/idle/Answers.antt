@@ -1,7 +1,5 @@
 use Rattle.machine.proofs.Faith.{stays_seen}
 use Rattle.machine.proofs.machine.Machine.idle.Goals as goal
 
-pub returns : goal.returns
-returns g c =
-    let holds = stays_seen g.met.E.Exclusion.shaped g.met.E.Exclusion.obeys g.met.E.Exclusion.says c.self.view_is c.idle.ensures.does in
-    record { does = holds.0; faithful = holds.1 }
+pub returns-clause-faithful : goal.returns-clause-faithful
+returns-clause-faithful g c = stays_seen g.met.E.Exclusion.shaped g.met.E.Exclusion.obeys g.met.E.Exclusion.says c.self.view_is c.idle.ensures.does
