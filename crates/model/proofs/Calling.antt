@@ -10,10 +10,10 @@ use Rattle.exclusion.specs.declared.meaning.Verdict.{Verdict}
 use Rattle.model.specs.declared.state.Operation.{Operation}
 use Rattle.model.specs.declared.state.Settling.{Settling}
 use Rattle.model.specs.declared.state.Core.{Core}
-use Rattle.model.specs.State.{no_cpu, no_thread, thread_at, cpu_at, top_frame}
+use Rattle.model.specs.State.{no_thread, thread_at, cpu_at, top_frame}
 use Rattle.model.specs.Words.{performed}
 use Rattle.model.specs.Calls.{Answered, refused, accepted, ran, advanced, operation_of, cpu_of, after_verdict, with_thread, Disturbs, DisturbsCurrent, Granted, ByChecks, ToldIf, Performs, Runs, none, more, Stopped, ByCurrent, ByOperation, with_frame, with_current, Signals, Step}
-use Rattle.model.specs.Laws.{RefusedChangesNothing, OnlyTheStructuresOfQ, OnlyItsOwnThread, Determined}
+use Rattle.model.specs.Laws.{RefusedChangesNothing, OnlyItsOwnThread, Determined}
 
 module _ {E : Type 0} (told : E → Notice → E → Type 0) (answers : E → ℕ → ℕ → ℕ → Verdict → Type 0) where
   -- A call whose checks are tried: refused, or done.
@@ -56,9 +56,6 @@ module _ {E : Type 0} (told : E → Notice → E → Type 0) (answers : E → �
   refused_stays m (call.Signal t raw) fault k s =
       unless m _ (refused fault) k _ s
       (λ d. by_operation (operation_of m.0.sizes raw) (λ operation. Signals told answers m t operation (cpu_of m.0 t) (refused fault) k) (k ≡ m) d (λ operation is p. signal_refused m t operation (cpu_of m.0 t) fault k p))
-
-pub only_q : OnlyTheStructuresOfQ
-only_q core cpu t c ne = get_or-set_other core.cpus (thread_at core t).q c _ no_cpu ne
 
 pub only_own : OnlyItsOwnThread
 only_own core cpu t s ne = get_or-set_other core.threads t s _ no_thread ne

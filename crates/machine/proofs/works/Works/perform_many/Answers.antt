@@ -1,18 +1,15 @@
 use Rattle.std.proofs.Common.{◌+◌, Option, sym, subst, ◌∙◌}
 use Rattle.model.specs.declared.state.Settling.{Settling}
 use Rattle.model.specs.Calls.{Runs, none}
-use Rattle.machine.proofs.Steps.{one_more, stopped_short}
+use Rattle.machine.proofs.Steps.{one_more}
 use Rattle.lives.proofs.Living.{none_if_not_some}
 use Rattle.machine.proofs.works.Works.perform_many.Goals as goal
 
 pub loop-done-init : goal.loop-done-init
 loop-done-init g c = none
 
-pub returns-then-is_some : goal.returns-then-is_some
-returns-then-is_some g c = record {
-  stopped = stopped_short g.E.Exclusion.told g.E.Exclusion.answers c.args.instructions c.loop-done.done c.perform_one-settling.result (sym c.is_some.ensures ∙ c.if-is_some.true) c.loop-done-test.true;
-  runs = one_more c.loop-done.invariant c.perform_one-settling.ensures.performs;
-}
+pub returns-then-is_some-clause-runs : goal.returns-then-is_some-clause-runs
+returns-then-is_some-clause-runs g c = one_more c.loop-done.invariant c.perform_one-settling.ensures.performs
 
 pub loop-done-preserved : goal.loop-done-preserved
 loop-done-preserved g c =
