@@ -53,8 +53,8 @@ abbrev pub with_end : {X : Type 0} → Result X Fault → ℕ → Result (X × �
 with_end (Ok x) at = Ok (x, at)
 with_end (Err fault) at = Err fault
 
--- A part of the bytes that begins where a reader stood was read: the answer is the part's, the reader stands behind it, and its
--- bytes are the same.
+-- A part of the bytes that begins where a reader stood was read: the answer is the part's, its bytes are the same, and where
+-- the part was read the reader stands behind it. Where it stands after a fault is left open here.
 abbrev pub ReadsAs : {X : Type 0} → (List ℕ → ℕ → Result (X × ℕ) Fault) → Reader → Result X Fault → Reader → Type 0
 ReadsAs part reader result reader' = (with_end result reader'.at ≡ part reader.bytes.now reader.at) × (reader'.bytes.now ≡ reader.bytes.now)
 

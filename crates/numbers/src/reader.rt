@@ -25,6 +25,7 @@ impl Reader<'_> {
 
     /// The number whose spelling begins here. A number that breaks off and one that is not spelled as it should be are
     /// refused at their first byte, where the reader then stays.
+    #[tactic(auto, using(crate::proofs::Read::start))]
     pub fn number(&mut self) -> Result<u64, Fault>
         ensures defined { ReadsAs number_at self.old result self.new }
         ensures goes_on { IfOk result (λ _. (self.old.at < self.new.at) × (self.new.at ≤ length self.old.bytes.now)) }

@@ -97,7 +97,7 @@ pub fn read_calls(heap: Global, mut reader: Reader) -> Result<CallsRead, AllocEr
     Ok(CallsRead { calls, fault: None })
 }
 
-// stays: as with the calls; and calls and fault are listed alike whether there is a job or not
+// stays: job, calls and fault side by side, as the definition of a schedule that was read has them: who lists or replays one takes calls and fault alike
 /// A schedule as far as it can be read: its job, if that is accepted, its calls, each with its offset, and the fault that
 /// ended the reading, if one did.
 #[derive(Drop)]

@@ -80,7 +80,7 @@ fn read_words(reader: &mut Reader, count: usize) -> Result<[u32; TEXT_LENGTH], F
     Ok(words)
 }
 
-// stays: that a text fits is a clause and no fact of its type, since the definitions make a text of any list
+// stays: that a text fits is a clause, which `read_header` promises, and no fact of the type, since the definitions make a text of any list
 /// Reads the text: the number of its words, then the words.
 fn read_text(reader: &mut Reader) -> Result<Text, Fault>
     ensures defined { ReadsAs text_at reader.old result reader.new }

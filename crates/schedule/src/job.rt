@@ -1,11 +1,13 @@
 //! What a schedule's header tells.
-ghost use Rattle.std.specs.Prelude.{◌≡◌, Some};
+ghost use Rattle.std.specs.Prelude.{◌≡◌, ◌++◌, Some, codes};
+ghost use Rattle.std.specs.Fmt.{decimal};
 ghost use Rattle.schedule.specs.Format.{words_of};
 ghost use Rattle.schedule.specs.Names.{exclusion_name, exclusion_numbered};
 
 use image::checks::{JobImage, TABLE_LENGTH};
 use image::fields::Sizes;
 use image::text::Text;
+use std::error::Error;
 use std::fmt;
 
 /// The exclusion that a job asks for by its number: what keeps a restartable section from being disturbed halfway.
@@ -20,7 +22,7 @@ pub enum ExclusionName {
 }
 
 /// A number that is no exclusion's.
-#[derive(Clone, Copy)]
+#[derive(Clone, Copy, PartialEq, Eq, Debug)]
 pub struct UnknownExclusion(pub u64);
 
 impl TryFrom<u64> for ExclusionName {
@@ -38,6 +40,17 @@ impl TryFrom<u64> for ExclusionName {
         }
     }
 }
+
+/// What is wrong, with the number.
+impl fmt::Display for UnknownExclusion {
+    ghost output = { λ e. Some (codes "no exclusion has the number " ++ decimal e.0) };
+
+    fn fmt<W: fmt::Write>(&self, f: &mut fmt::Formatter<W>) -> fmt::Result {
+        write!(f, "no exclusion has the number {}", self.0)
+    }
+}
+
+impl Error for UnknownExclusion {}
 
 /// Writes the exclusion's name.
 impl fmt::Display for ExclusionName {

@@ -13,7 +13,7 @@ use std::fmt;
 /// Instructions work on the registers q, a, b and w of a thread, on its hand, which holds a node or nothing, and on the
 /// structures of CPU q: counters, a list of nodes, and a ring of packets. "Ends with" says that the operation is over, with
 /// that answer.
-#[derive(Clone, Copy, PartialEq, Eq, Hash, Debug)]
+#[derive(Clone, Copy, PartialEq, Eq, Debug)]
 pub enum Word {
     /// The entry of a routine: its descriptor is armed, which marks the thread as being in that routine, and its section
     /// begins.
@@ -73,7 +73,7 @@ impl Word {
 }
 
 /// A number that stands for no word.
-#[derive(Clone, Copy, PartialEq, Eq, Hash, Debug)]
+#[derive(Clone, Copy, PartialEq, Eq, Debug)]
 pub struct NoSuchWord(pub u32);
 
 /// The word that a number of a text stands for.
@@ -123,7 +123,7 @@ impl fmt::Display for NoSuchWord {
 impl Error for NoSuchWord {}
 
 /// An operation by what it does to the structures of a CPU. The number is that of its descriptor.
-#[derive(Clone, Copy, PartialEq, Eq, Hash, Debug)]
+#[derive(Clone, Copy, PartialEq, Eq, Debug)]
 pub enum Kind {
     /// Adds an amount to a counter.
     Add = 1,
@@ -200,7 +200,7 @@ impl Kind {
 }
 
 /// A number that no operation has.
-#[derive(Clone, Copy, PartialEq, Eq, Hash, Debug)]
+#[derive(Clone, Copy, PartialEq, Eq, Debug)]
 pub struct NoSuchKind(pub u64);
 
 /// The operation with a number.

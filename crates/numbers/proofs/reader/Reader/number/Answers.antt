@@ -1,10 +1,7 @@
-use Rattle.std.proofs.Common.{◌≡◌, ◌<◌, ◌⊎◌, sym, refl, ◌∙◌, arith, inl, inr}
-use Rattle.numbers.proofs.Read.{start, unmoved, gone, got, broken, misspelled, ended, next, shifted}
+use Rattle.std.proofs.Common.{◌≡◌, ◌<◌, ◌⊎◌, sym, ◌∙◌, arith, inl, inr}
+use Rattle.numbers.proofs.Read.{unmoved, gone, got, broken, misspelled, ended, next, shifted}
 use Rattle.numbers.proofs.reader.Reader.number.Goals as goal
 use Rattle.numbers.proofs.reader.Reader.number.Goals.{else-loop-shift-test, then-loop-shift-test+in-Some+then-byte-gt1, then-byte-gt1-via-then-byte-gt1, then-byte-gt1-via-else-byte-gt1+then-byte-eq0}
-
-pub loop-shift-init : goal.loop-shift-init
-loop-shift-init c = record { so_far = start _ _; not_moved = refl; same_bytes = refl }
 
 pub returns-in_default-clause-defined : goal.returns-in_default-clause-defined
 returns-in_default-clause-defined c =
