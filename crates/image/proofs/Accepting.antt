@@ -46,7 +46,7 @@ passing x [] all = refl
 passing x (c ∷ cs) all = ap (λ t. cond t (first_failing x cs) (Err c.fault)) all.0 ∙ passing x cs all.1
 
 -- Lists of checks, one after the other.
-split_all : (first second : List Check) → AllByRecursion Passes (first ++ second) → AllByRecursion Passes first × AllByRecursion Passes second
+pub split_all : (first second : List Check) → AllByRecursion Passes (first ++ second) → AllByRecursion Passes first × AllByRecursion Passes second
 split_all [] second all = (tt, all)
 split_all (c ∷ cs) second all = let rest = split_all cs second all.1 in ((all.0, rest.0), rest.1)
 

@@ -9,6 +9,7 @@ use Rattle.words.specs.declared.Kind.TheVariants as kind
 use Rattle.words.specs.declared.Word.{Word}
 use Rattle.words.specs.declared.Word.TheVariants.{Enter, ReadCpu, LoadCounter, AddAmount, StoreCounter, NeedNode, NeedEmptyHand, LoadListHead, LinkNode, PushNode, NeedListed, LoadNext, PopNode, LoadTail, LoadRingHead, NeedRoom, StorePacket, AdvanceTail, NeedPacket, LoadPacket, AdvanceRingHead, Restart}
 use Rattle.words.specs.Words.{code, kinds, kind_number, word_of}
+use Rattle.image.proofs.Accepting.{split_all}
 use Rattle.image.specs.declared.fields.Sizes.{Sizes}
 use Rattle.image.specs.declared.layout.Section.{Section}
 use Rattle.image.specs.Layout.{LiesAt, word_at, Inside, section_of, sections_of}
@@ -130,10 +131,6 @@ module _ (table text : List ℕ) where
 -- Lists of checks, one after the other.
 abbrev Passes : Check → Type 0
 Passes check = check.passes ≡ true
-
-split_all : (first second : List Check) → AllByRecursion Passes (first ++ second) → AllByRecursion Passes first × AllByRecursion Passes second
-split_all [] second all = (tt, all)
-split_all (c ∷ cs) second all = let rest = split_all cs second all.1 in ((all.0, rest.0), rest.1)
 
 -- Sections that pass the comparison are the same.
 same_by_test : (one other : Section) → same_section one other ≡ true → one ≡ other

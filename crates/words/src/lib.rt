@@ -72,6 +72,7 @@ impl Word {
     }
 }
 
+// stays: an error of its own, as of a kind and of an exclusion: each says what it is that has no such number
 /// A number that stands for no word.
 #[derive(Clone, Copy, PartialEq, Eq, Debug)]
 pub struct NoSuchWord(pub u32);
