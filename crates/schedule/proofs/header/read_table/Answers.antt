@@ -11,8 +11,8 @@ read bytes rest table at r l n e =
     let all : rest ≡ drop at bytes = grind (arith, common_steps) in
     rw (e, all) (sym (ap (λ b. cond b (Err (fault_at EndsInside (length bytes))) (Ok (take 160 (drop at bytes), at + 160))) (le-ltb (length bytes) (at + 160) (omega arith))))
 
-pub returns : goal.returns
-returns c =
+pub returns-clause-defined : goal.returns-clause-defined
+returns-clause-defined c =
     let r = c.in-Some.ensures.lookup.0 in
     let t = c.in-Some-first_chunk.ensures.cases in
-    record { defined = (read _ _ _ _ r.2 r.3 t.enough t.same, refl) }
+    (read _ _ _ _ r.2 r.3 t.enough t.same, refl)
