@@ -45,6 +45,7 @@ fn read_sizes(reader: &mut Reader) -> Result<Sizes, Fault>
 }
 
 /// Reads the bytes of the descriptor table. On a fault the reader stays where the table begins.
+#[tactic(auto, using(crate::proofs::Tables::read))]
 pub fn read_table(reader: &mut Reader) -> Result<[u8; TABLE_LENGTH], Fault>
     ensures defined { ReadsAs table_at reader.old result reader.new }
     ensures stays_on_a_fault { IfErr result (λ _. reader.new.at ≡ reader.old.at) }
