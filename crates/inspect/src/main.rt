@@ -3,12 +3,11 @@
 #![tactic(auto)]
 
 use faults::Fault;
-use image::checks::{TABLE_LENGTH, accept_text_length};
 use image::fields::Field;
 use image::layout::{Descriptor, TEXT_START};
 use numbers::reader::Reader;
 use schedule::body::{CallAt, read_schedule};
-use schedule::header::{SCHEDULE_LENGTH, read_field};
+use schedule::header::{SCHEDULE_LENGTH, read_field, read_table, read_word_count};
 use schedule::job::ExclusionName;
 use std::alloc::{AllocError, Global};
 use std::io::Read;
@@ -65,12 +64,10 @@ fn list_numbers(out: &mut String, reader: &mut Reader) -> Result<(), Stop> {
 
 /// Lists the descriptors of the table.
 fn list_table(out: &mut String, reader: &mut Reader) -> Result<(), Stop> {
-    let rest = reader.bytes.get(reader.at..).unwrap_or(&[]);
-    let table = rest.get(..TABLE_LENGTH).ok_or(Stop::Unreadable)?;
-    reader.at += TABLE_LENGTH;
+    let table = read_table(reader)?;
     for kind in Kind::all() {
         let number = kind.number();
-        let descriptor = Descriptor::of(table, *kind);
+        let descriptor = Descriptor::of(&table, *kind);
         let section = descriptor.section;
         write!(out, "descriptor {number} {kind}")?;
         write!(out, " version {}", descriptor.version)?;
@@ -83,8 +80,8 @@ fn list_table(out: &mut String, reader: &mut Reader) -> Result<(), Stop> {
 
 /// Lists the words of the text.
 fn list_words(out: &mut String, reader: &mut Reader) -> Result<(), Stop> {
-    let count = accept_text_length(reader.number()?)?;
-    for address in (TEXT_START..).step_by(4).take(count as usize) {
+    let count = read_word_count(reader)?;
+    for address in (TEXT_START..).step_by(4).take(count) {
         let word = read_field(reader, Field::TextWord)?;
         if word < 256 {
             writeln!(out, "word {address} {word}")?;
@@ -146,7 +143,7 @@ fn listing(heap: Global, bytes: &[u8]) -> Result<String, AllocError> {
 }
 
 /// Prints what the schedule on standard input says.
-fn list_input(rt: &HostRuntime) -> anyhow::Result<()> {
+fn main(rt: HostRuntime) -> anyhow::Result<()> {
     let heap = rt.alloc();
     let mut bytes = Vec::new(heap);
     let most = SCHEDULE_LENGTH as u64 + 1;
@@ -154,9 +151,4 @@ fn list_input(rt: &HostRuntime) -> anyhow::Result<()> {
     let text = listing(heap, bytes.as_slice())?;
     rt.print(text.as_str())?;
     Ok(())
-}
-
-/// Lists the schedule on standard input.
-fn main(rt: HostRuntime) -> anyhow::Result<()> {
-    list_input(&rt)
 }

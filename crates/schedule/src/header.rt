@@ -44,9 +44,11 @@ fn read_sizes(reader: &mut Reader) -> Result<Sizes, Fault>
     })
 }
 
-/// Reads the bytes of the descriptor table.
-fn read_table(reader: &mut Reader) -> Result<[u8; TABLE_LENGTH], Fault>
+/// Reads the bytes of the descriptor table. On a fault the reader stays where the table begins.
+#[tactic(auto, using(crate::proofs::Tables::read))]
+pub fn read_table(reader: &mut Reader) -> Result<[u8; TABLE_LENGTH], Fault>
     ensures defined { ReadsAs table_at reader.old result reader.new }
+    ensures stays_on_a_fault { IfErr result (λ _. reader.new.at ≡ reader.old.at) }
 {
     if let Some(rest) = reader.bytes.get(reader.at..)
         && let Some(table) = rest.first_chunk()
@@ -57,14 +59,16 @@ fn read_table(reader: &mut Reader) -> Result<[u8; TABLE_LENGTH], Fault>
     Err(Fault::at(Refusal::EndsInside, reader.bytes.len()))
 }
 
-/// Reads the number of words.
-fn read_word_count(reader: &mut Reader) -> Result<usize, Fault>
+/// Reads the number of words, of which a text has at least 1 and at most 256. On a fault the reader stays at the number.
+pub fn read_word_count(reader: &mut Reader) -> Result<usize, Fault>
     ensures defined { ReadsAs word_count_at reader.old result reader.new }
     ensures within_limits { IfOk result (λ n. (1 ≤ n) × (n ≤ 256)) }
+    ensures stays_on_a_fault { IfErr result (λ _. reader.new.at ≡ reader.old.at) }
 {
-    let first = reader.at;
-    let count = reader.number()?;
-    let count = accept_text_length(count).map_err(|fault| Fault::by_boot(first, fault))?;
+    let mut ahead = *reader;
+    let count = ahead.number()?;
+    let count = accept_text_length(count).map_err(|fault| Fault::by_boot(reader.at, fault))?;
+    *reader = ahead;
     Ok(count as usize)
 }
 
