@@ -22,17 +22,6 @@ returns-then-byte-lt128-clause-defined c =
     let e = ended _ _ _ _ _ _ i.so_far h c.if-byte-lt128.true (λ e. omega (arith, c.if-byte-gt1.either)) (λ e. omega (arith, c.if-byte-eq0.either)) in
     (rw (s.whole, c.from.ensures, c.in-Some.ensures.goes_on) (sym e), c.byte.ensures.same_bytes ∙ i.same_bytes)
 
-pub returns-then-byte-lt128-clause-goes_on : goal.returns-then-byte-lt128-clause-goes_on
-returns-then-byte-lt128-clause-goes_on c =
-    let i = c.loop-shift.invariant in
-    let h = got _ _ _ _ i.same_bytes c.in-Some.ensures.defined in
-    rw c.in-Some.ensures.goes_on (omega (arith, i.so_far.place), omega (arith, h.within))
-
-pub overflow_add-value : goal.overflow_add-value
-overflow_add-value c =
-    let s = shifted _ _ _ _ _ c.from-in-loop-shift.result c.loop-shift.invariant.so_far (omega arith) (λ e. omega (arith, c.if-byte-gt1.either)) in
-    rw s.whole (omega (arith, s.fits))
-
 pub loop-shift-preserved : goal.loop-shift-preserved
 loop-shift-preserved c =
     let i = c.loop-shift.invariant in
