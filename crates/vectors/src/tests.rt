@@ -133,6 +133,7 @@ fn refused(rt: &impl Abort, image: JobImage, fault: Fault) {
     assert_eq!(rt; image.check(), Err(fault));
 }
 
+// stays: apart from `text_refused`, which changes a word where this changes a byte; both are a line around `refused`
 /// The sample image with one byte of the table changed.
 fn table_refused(rt: &impl Abort, at: usize, byte: u8, refusal: Refusal, place: usize) {
     let mut table = TABLE;
