@@ -58,7 +58,7 @@ pub trait Exclusion {
     fn section(&self, d: usize) -> Section
         ensures of_the_meaning { result ≡ (meaning self.now).section d };
 
-    // stays: no empty body as a default for what only stays as it is; tried, and the proof didn't close, as a default is proved for all at once
+    // stays: `entered`, `stepped` and `left` have no empty default; tried, and the proof didn't close, as a default is proved for all at once
     /// A thread on a CPU has entered section d.
     fn entered(&mut self, cpu: usize, d: usize)
         ensures told_so { told self.old (Entered cpu d) self.new };
@@ -82,6 +82,7 @@ pub trait Exclusion {
     ghost says: { (e : Self) (cpu armed place : ℕ) (v : Verdict) → answers e cpu armed place v → Says (meaning e) cpu armed place v };
 }
 
+// stays: one match on what is told, whose arms are the methods that the trait has
 /// Tells an exclusion one thing.
 pub fn tell<E: Exclusion>(exclusion: &mut E, notice: Notice)
     ensures told_so { E.Exclusion.told exclusion.old notice exclusion.new }

@@ -49,7 +49,7 @@ fn has_routine(text: &[u32], kind: Kind, section: Section) -> bool
 {
     let words = kind.section_words();
     section.length == 4 * words.len() as u64
-        && has_number(text, section.start.saturating_sub(4), Word::Enter.number())
+        && has_number(text, section.entry(), Word::Enter.number())
         && has_words(text, section.start, words)
         && has_number(text, section.abort, Word::Restart.number())
 }

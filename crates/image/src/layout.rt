@@ -1,5 +1,5 @@
 //! Where words and records lie.
-ghost use Rattle.std.specs.Prelude.{◌≡◌, ℕ, ◌+◌, ◌<◌, ◌≤◌, Decides, EachIndex, MatchOption, slice_index};
+ghost use Rattle.std.specs.Prelude.{◌≡◌, ℕ, ◌+◌, ◌-◌, ◌<◌, ◌≤◌, Decides, EachIndex, MatchOption, slice_index};
 ghost use Rattle.image.specs.Layout.{Inside, LiesAt, descriptor_of, inside, record_offset, section_of, sections_of, word_at};
 
 use std::array;
@@ -37,6 +37,13 @@ pub fn word_at(text: &[u32], address: u64) -> Option<u32>
 }
 
 impl Section {
+    /// The address of the routine's entry, right before the section; 0 where there is none before it.
+    pub fn entry(self) -> u64
+        ensures defined { result ≡ self.start - 4 }
+    {
+        self.start.saturating_sub(4)
+    }
+
     /// Whether an address lies in the section. Its end is a whole number, which may be 2^64 or more.
     pub fn contains(self, address: u64) -> bool
         ensures defined { result ≡ inside self address }
@@ -64,7 +71,7 @@ impl Section {
 pub fn sections(table: &[u8]) -> [Section; 5]
     ensures defined { result ≡ sections_of table.now }
 {
-    // stays: the kinds by name, since `Kind::all` is a slice, which no array can be made from by `map`
+    // stays: the kinds by name: `Kind::all` gives a slice, and an array cannot be made from one by `map`
     [Kind::Add, Kind::Push, Kind::Pop, Kind::Put, Kind::Take].map(|kind| Section::of(table, kind))
 }
 

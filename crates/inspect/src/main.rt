@@ -49,6 +49,7 @@ impl From<AllocError> for Stop {
     }
 }
 
+// stays: the header is read here once more, part by part, since a refused job is listed as far as it goes
 /// Lists the numbers of the header.
 fn list_numbers(out: &mut String, reader: &mut Reader) -> Result<(), Stop> {
     let exclusion = ExclusionName::try_from(read_field(reader, Field::Exclusion)?).unwrap();

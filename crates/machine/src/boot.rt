@@ -10,7 +10,7 @@ ghost use Rattle.words.specs.Words.{kind_number, kinds};
 
 use exclusion::meaning::Exclusion;
 use faults::{Fault, Refusal};
-use image::checks::JobImage;
+use image::checks::{JobImage, TEXT_LENGTH};
 use image::fields::Sizes;
 use image::layout::Section;
 use image::text::Text;
@@ -52,7 +52,7 @@ fn new_cpu(first: u64) -> Cpu
 fn next_of(node: u64, nodes: u64) -> u64
     ensures { result ≡ (if nat_le 1 node && nat_lt node nodes then node + 1 else 0) }
 {
-    if 1 <= node && node < nodes {
+    if (1..nodes).contains(&node) {
         node + 1
     } else {
         0
@@ -93,7 +93,7 @@ fn image_of(sections: [Section; 5], text: &[u32]) -> Image
     requires { length text.now ≤ 256 }
     ensures { result ≡ record { sections = sections; text = record { words = text.now ++ replicate (256 - length text.now) 0; count = length text.now } } }
 {
-    let mut words = [0; 256];
+    let mut words = [0; TEXT_LENGTH];
     words[..text.len()].copy_from_slice(text);
     let count = text.len();
     Image {
@@ -121,7 +121,7 @@ fn compare_kinds<E: Exclusion>(exclusion: &E, table: &[u8], these: &[Kind]) -> R
     Ok(())
 }
 
-// stays: a function of its own, since what is compared is all kinds, which the contract says and the caller need not
+// stays: tried within `boot_parts`, and the proof didn't close: that all kinds are compared is known there only by a contract
 /// Compares all sections of an exclusion with the table's.
 fn compare_sections<E: Exclusion>(exclusion: &E, table: &[u8]) -> Result<(), Fault>
     ensures { result ≡ all_pass (section_checks (E.Exclusion.meaning exclusion.now).section table.now kinds) }

@@ -151,7 +151,7 @@ pub fn perform(
             Some(Answer::Got(thread.w))
         }
         (Some(Word::Restart), operation) => {
-            let place = section_of(image, operation).start.saturating_sub(4);
+            let place = section_of(image, operation).entry();
             thread.set_top(Frame { place, ..frame });
             return None;
         }

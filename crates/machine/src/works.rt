@@ -18,7 +18,6 @@ use faults::{Fault, Refusal};
 use image::checks::JobImage;
 use model::state::{Core, Frame, Operation, Settling};
 
-// stays: a CPU and its thread are two numbers with their bounds asked for; a type for the pair would be taken apart at each use
 /// The state of a machine and its exclusion, which it tells and asks as its rules say. It keeps itself sound: what it uses as
 /// an index is within its arrays.
 #[derive(Drop)]
@@ -49,6 +48,7 @@ impl<E: Exclusion + Drop> Works<E> {
 }
 
 impl<E: Exclusion> Works<E> {
+    // stays: apart from `thread_index`, one call each; it says which size is the limit and which the refusal
     /// The index of a CPU that the machine has; or the refusal.
     pub fn cpu_index(&self, cpu: u64) -> Result<usize, Fault>
         ensures { IndexBelow cpu self.now.core.sizes.cpus NoCpu result }
@@ -122,6 +122,8 @@ impl<E: Exclusion> Works<E> {
         Ok(())
     }
 
+    // stays: a CPU and its thread are two numbers with their bounds asked for, here and in the parts below; a type for the pair would be
+    // taken apart at each use
     /// One instruction of a thread on a CPU, of which the exclusion is told.
     fn perform_one(&mut self, cpu: usize, t: usize) -> Option<Settling>
         requires { (cpu < 8) × (t < 16) }
@@ -223,15 +225,14 @@ impl<E: Exclusion> Works<E> {
         Ok(self.perform_many(cpu as usize, t, instructions))
     }
 
+    // stays: that the exclusion stays is a clause of four parts; a part over the state alone would not keep it sound
     /// Puts a frame that begins an operation on a thread's stack.
     fn add_frame(&mut self, t: usize, operation: Operation)
         requires { (t < 16) × ((thread_at self.old.core t).depth < 8) }
         ensures defined { self.new.core ≡ with_frame t operation self.old.core }
         ensures exclusion_stays { self.new.exclusion ≡ self.old.exclusion }
     {
-        let place = section_of(&self.core.image, operation)
-            .start
-            .saturating_sub(4);
+        let place = section_of(&self.core.image, operation).entry();
         self.core.threads[t].push(Frame {
             operation,
             place,

@@ -135,7 +135,7 @@ pub struct Image {
     pub text: Text,
 }
 
-// stays: arrays, as a machine has stated bounds and no heap
+// stays: arrays, as a machine has stated bounds and no heap; next words are words of memory, 0 for none, as a list head is
 /// A machine without its exclusion. Node n's next word stands at n.
 #[derive(Clone, Copy)]
 pub struct Core {

@@ -1,5 +1,5 @@
 -- What a reader answers at an offset of any bytes, and what a writer leaves in any buffer.
-use Rattle.std.specs.Prelude.{◌≡◌, ℕ, zero, suc, ◌+◌, ◌-◌, ◌*◌, ◌<◌, ◌≤◌, cond, ◌⊎◌, List, [], ◌∷◌, ◌++◌, length, drop, Ok, Err, Result, nat_lt}
+use Rattle.std.specs.Prelude.{◌≡◌, ℕ, zero, suc, ◌+◌, ◌-◌, ◌*◌, ◌<◌, ◌≤◌, cond, ◌⊎◌, List, [], ◌∷◌, ◌++◌, length, drop, Ok, Err, Result, IfOk, IfErr, nat_lt}
 use Rattle.faults.specs.declared.Fault.{Fault}
 use Rattle.faults.specs.declared.Refusal.TheVariants.{NoRoom, EndsInside, WrongSpelling}
 use Rattle.faults.specs.Numbering.{fault_at}
@@ -63,3 +63,11 @@ ReadsAs part reader result reader' = (with_end result reader'.at ≡ part reader
 abbrev pub Written : List ℕ → ℕ → List ℕ → Result ℕ Fault → Type 0
 Written out n out' (Ok k) = (k ≡ length (spelling n)) × (k ≤ length out) × (out' ≡ spelling n ++ drop k out)
 Written out n out' (Err f) = (length out < length (spelling n)) × (out' ≡ out) × (f ≡ fault_at NoRoom 0)
+
+-- Where a part was read the reader has gone on, and stands within its bytes or at their end.
+abbrev pub GoesOn : {X : Type 0} → Reader → Result X Fault → Reader → Type 0
+GoesOn reader result reader' = IfOk result (λ _. (reader.at < reader'.at) × (reader'.at ≤ length reader.bytes.now))
+
+-- Where it was refused the reader stays.
+abbrev pub StaysOnAFault : {X : Type 0} → Reader → Result X Fault → Reader → Type 0
+StaysOnAFault reader result reader' = IfErr result (λ _. reader'.at ≡ reader.at)

@@ -1,6 +1,6 @@
 //! Reading numbers one after the other.
 ghost use Rattle.std.specs.Prelude.{◌≡◌, ℕ, ◌+◌, ◌<◌, ◌≤◌, length, slice_index, IfOk, IfErr, MatchOption};
-ghost use Rattle.numbers.specs.Reading.{ReadsAs, number_at};
+ghost use Rattle.numbers.specs.Reading.{GoesOn, ReadsAs, StaysOnAFault, number_at};
 
 use faults::{Fault, Refusal};
 
@@ -28,8 +28,8 @@ impl Reader<'_> {
     #[tactic(auto, using(crate::proofs::Read::start))]
     pub fn number(&mut self) -> Result<u64, Fault>
         ensures defined { ReadsAs number_at self.old result self.new }
-        ensures goes_on { IfOk result (λ _. (self.old.at < self.new.at) × (self.new.at ≤ length self.old.bytes.now)) }
-        ensures stays_on_a_fault { IfErr result (λ _. self.new.at ≡ self.old.at) }
+        ensures goes_on { GoesOn self.old result self.new }
+        ensures stays_on_a_fault { StaysOnAFault self.old result self.new }
     {
         let first = self.at;
         let mut ahead = *self;

@@ -1,6 +1,6 @@
 //! The calls of a schedule, read one by one.
 ghost use Rattle.std.specs.Prelude.{◌≡◌, ℕ, ◌+◌, ◌<◌, ◌≤◌, [], length, IfOk, IfErr};
-ghost use Rattle.numbers.specs.Reading.{ReadsAs};
+ghost use Rattle.numbers.specs.Reading.{GoesOn, ReadsAs, StaysOnAFault};
 ghost use Rattle.schedule.specs.Reading.{CallsAsRead, call_at, call_by, calls_from, operation_at, schedule_read};
 
 use super::header::read_job;
@@ -20,7 +20,7 @@ pub struct CallAt {
 /// Reads an operation: kind, counter and amount, each any number.
 fn read_operation(reader: &mut Reader) -> Result<RawOperation, Fault>
     ensures defined { ReadsAs operation_at reader.old result reader.new }
-    ensures goes_on { IfOk result (λ _. (reader.old.at < reader.new.at) × (reader.new.at ≤ length reader.old.bytes.now)) }
+    ensures goes_on { GoesOn reader.old result reader.new }
 {
     Ok(RawOperation {
         kind: reader.number()?,
@@ -33,8 +33,8 @@ fn read_operation(reader: &mut Reader) -> Result<RawOperation, Fault>
 /// Reads a call. Its first letter says which call it is. On a fault the reader stays at that letter.
 pub fn read_call(reader: &mut Reader) -> Result<Call, Fault>
     ensures defined { ReadsAs call_at reader.old result reader.new }
-    ensures goes_on { IfOk result (λ _. (reader.old.at < reader.new.at) × (reader.new.at ≤ length reader.old.bytes.now)) }
-    ensures stays_on_a_fault { IfErr result (λ _. reader.new.at ≡ reader.old.at) }
+    ensures goes_on { GoesOn reader.old result reader.new }
+    ensures stays_on_a_fault { StaysOnAFault reader.old result reader.new }
 {
     let first = reader.at;
     let mut ahead = *reader;
@@ -97,7 +97,7 @@ pub fn read_calls(heap: Global, mut reader: Reader) -> Result<CallsRead, AllocEr
     Ok(CallsRead { calls, fault: None })
 }
 
-// stays: job, calls and fault side by side, as the definition of a schedule that was read has them: who lists or replays one takes calls and fault alike
+// stays: job, calls and fault side by side: a schedule that breaks off has all three, and a `Result` would lose the job and the calls
 /// A schedule as far as it can be read: its job, if that is accepted, its calls, each with its offset, and the fault that
 /// ended the reading, if one did.
 #[derive(Drop)]

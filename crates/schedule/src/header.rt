@@ -1,7 +1,7 @@
 //! The header of a schedule, read part by part.
 ghost use Rattle.std.specs.Prelude.{◌≡◌, ℕ, ◌+◌, ◌<◌, ◌≤◌, length, IfOk, IfErr};
 ghost use Rattle.image.specs.Checks.{largest, least};
-ghost use Rattle.numbers.specs.Reading.{ReadsAs};
+ghost use Rattle.numbers.specs.Reading.{GoesOn, ReadsAs, StaysOnAFault};
 ghost use Rattle.schedule.specs.Reading.{field_at, header_at, job_at, padded_words_at, parts_at, sizes_at, table_at, text_at, word_count_at};
 
 use super::job::{ExclusionName, Job};
@@ -19,8 +19,8 @@ pub const SCHEDULE_LENGTH: usize = 32768;
 pub fn read_field(reader: &mut Reader, field: Field) -> Result<u64, Fault>
     ensures defined { ReadsAs (λ bytes at. field_at bytes at field) reader.old result reader.new }
     ensures within_limits { IfOk result (λ n. (least field ≤ n) × (n ≤ largest field)) }
-    ensures goes_on { IfOk result (λ _. (reader.old.at < reader.new.at) × (reader.new.at ≤ length reader.old.bytes.now)) }
-    ensures stays_on_a_fault { IfErr result (λ _. reader.new.at ≡ reader.old.at) }
+    ensures goes_on { GoesOn reader.old result reader.new }
+    ensures stays_on_a_fault { StaysOnAFault reader.old result reader.new }
 {
     let mut ahead = *reader;
     let number = ahead.number()?;
@@ -48,7 +48,7 @@ fn read_sizes(reader: &mut Reader) -> Result<Sizes, Fault>
 #[tactic(auto, using(crate::proofs::Tables::read))]
 pub fn read_table(reader: &mut Reader) -> Result<[u8; TABLE_LENGTH], Fault>
     ensures defined { ReadsAs table_at reader.old result reader.new }
-    ensures stays_on_a_fault { IfErr result (λ _. reader.new.at ≡ reader.old.at) }
+    ensures stays_on_a_fault { StaysOnAFault reader.old result reader.new }
 {
     if let Some(rest) = reader.bytes.get(reader.at..)
         && let Some(table) = rest.first_chunk()
@@ -59,11 +59,12 @@ pub fn read_table(reader: &mut Reader) -> Result<[u8; TABLE_LENGTH], Fault>
     Err(Fault::at(Refusal::EndsInside, reader.bytes.len()))
 }
 
+// stays: apart from `read_field`, whose limits are a field's; over both a closure would accept the number, and promise by its `post`
 /// Reads the number of words, of which a text has at least 1 and at most 256. On a fault the reader stays at the number.
 pub fn read_word_count(reader: &mut Reader) -> Result<usize, Fault>
     ensures defined { ReadsAs word_count_at reader.old result reader.new }
     ensures within_limits { IfOk result (λ n. (1 ≤ n) × (n ≤ 256)) }
-    ensures stays_on_a_fault { IfErr result (λ _. reader.new.at ≡ reader.old.at) }
+    ensures stays_on_a_fault { StaysOnAFault reader.old result reader.new }
 {
     let mut ahead = *reader;
     let count = ahead.number()?;

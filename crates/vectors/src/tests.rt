@@ -19,6 +19,7 @@ use std::alloc::Global;
 use std::process::Abort;
 use std::test::Fail;
 
+// stays: apart from `call_at`; one for both would take the reading as a closure, which is no shorter
 /// The number at an offset, and the offset behind it.
 fn number_at(bytes: &[u8], at: usize) -> Result<(u64, usize), Fault> {
     let mut reader = Reader { bytes, at };
@@ -133,7 +134,7 @@ fn refused(rt: &impl Abort, image: JobImage, fault: Fault) {
     assert_eq!(rt; image.check(), Err(fault));
 }
 
-// stays: apart from `text_refused`, which changes a word where this changes a byte; both are a line around `refused`
+// stays: apart from `length_refused` and `text_refused`; one for all would need the array and its change as parameters
 /// The sample image with one byte of the table changed.
 fn table_refused(rt: &impl Abort, at: usize, byte: u8, refusal: Refusal, place: usize) {
     let mut table = TABLE;

@@ -146,7 +146,7 @@ impl Kind {
         &[Kind::Add, Kind::Push, Kind::Pop, Kind::Put, Kind::Take]
     }
 
-    // stays: beside the number of a word: a trait for both would be longer than two casts, which give different types
+    // stays: as with the number of a word; a trait for both would be longer than the casts, which give different types
     /// The number of the operation and of its descriptor.
     pub fn number(self) -> usize
         ensures numbered { result ≡ kind_number self }
