@@ -53,6 +53,8 @@ impl Section {
     }
 
     /// The section of an operation's descriptor in a table of any length, whose missing bytes count as 0.
+    // Set into its callers, which mostly know how long the table is, so that its bytes are read at once.
+    #[inline(always)]
     #[tactic(auto, using(crate::proofs::Bytes::of_eight), unfolding(crate::specs::Layout::section_of))]
     pub fn of(table: &[u8], kind: Kind) -> Section
         ensures defined { result ≡ section_of table.now kind }
@@ -98,9 +100,13 @@ pub(crate) fn record_offset(kind: Kind) -> usize
 }
 
 /// The bytes of a table from a place on, of which missing ones are 0.
+#[inline(always)]
 fn bytes_at<const N: usize>(table: &[u8], at: usize) -> [u8; N]
     ensures defined { EachIndex result (λ k. slice_index result k ≡ slice_index table.now (at + k)) }
 {
     let rest = table.get(at..).unwrap_or(&[]);
-    array::from_fn(|k| rest.get(k).copied().unwrap_or(0))
+    match rest.first_chunk() {
+        Some(all) => *all,
+        None => array::from_fn(|k| rest.get(k).copied().unwrap_or(0)),
+    }
 }

@@ -182,6 +182,9 @@ module _ (sizes : Sizes) (l : Ledger) where
   pub hand_found : (thread node : ℕ) → thread < sizes.threads → l.hands thread ≡ Some node → 1 ≤ found sizes l node
   hand_found thread node a_thread holds = omega (arith, held_node thread node holds, hands_have thread node a_thread)
 
+  pub list_found : (cpu node : ℕ) → cpu < sizes.cpus → 0 < among node (l.lists cpu) → 1 ≤ found sizes l node
+  list_found cpu node a_cpu listed = omega (arith, lists_have cpu node a_cpu)
+
   pub hand_not_listed : (thread cpu node : ℕ) → thread < sizes.threads → cpu < sizes.cpus → found sizes l node ≤ 1 → l.hands thread ≡ Some node → among node (l.lists cpu) ≡ 0
   hand_not_listed thread cpu node a_thread a_cpu once holds = omega (arith, held_node thread node holds, hands_have thread node a_thread, lists_have cpu node a_cpu)
 

@@ -235,3 +235,7 @@ nothing_invented sizes past number none = by ((always_kept sizes past).each numb
     by (never n) = (n.not_settled, n.waits_nowhere)
     by (settles s) = absurd (omega (arith, s.brought, none))
     by (waits w) = absurd (omega (arith, w.brought, none))
+
+-- An operation of a call that is still to come waits nowhere.
+pub waiting_below : (sizes : Sizes) (past : List Event) (thread number : ℕ) → length past < number → occurs number ((ledger sizes past).waiting thread) ≡ 0
+waiting_below sizes past thread number h = ((always_kept sizes past).later number h).waits_nowhere thread

@@ -113,7 +113,7 @@ impl<E: Exclusion> Works<E> {
         ensures { result ≡ ring_item_told self.now.core cpu position }
     {
         let cpu = self.cpu_index(cpu)?;
-        let ring = self.core.cpus[cpu];
+        let ring = &self.core.cpus[cpu];
         let packets = self.core.sizes.packets;
         let slot = reached(
             |slot| slot == ring.tail,

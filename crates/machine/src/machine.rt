@@ -2,10 +2,12 @@
 ghost use Rattle.std.specs.Prelude.{◌≡◌, IfOk};
 ghost use Rattle.calls.specs.declared.Call.TheVariants.{Advance, Enlist, Idle, Run, Signal, Switch};
 ghost use Rattle.machine.specs.Promises.{BeginsFaithful, CounterOfTheLedger, HandOfTheLedger, ListItemOfTheLedger, RingItemOfTheLedger, StaysFaithful, accept_answer, advance_answer, run_answer};
+ghost use Rattle.machine.specs.Sound.{Sound};
 ghost use Rattle.model.specs.Calls.{Boots, Step};
 ghost use Rattle.model.specs.Questions.{counter_told, hand_told, list_item_told, ring_item_told};
 ghost use Rattle.model.specs.declared.state.Core.{Core};
 
+use crate::boot::boot_parts;
 use crate::works::Works;
 use calls::RawOperation;
 use exclusion::meaning::Exclusion;
@@ -32,8 +34,11 @@ impl<E: Exclusion + Drop> Machine<E> {
     pub fn boot(image: &JobImage, exclusion: E) -> Result<Machine<E>, Fault>
         ensures does { Boots E.Exclusion.told E.Exclusion.answers E.Exclusion.meaning image.now.sizes image.now.signature image.now.table.now image.now.text.now exclusion result }
         ensures faithful { IfOk result (λ m. BeginsFaithful E.Exclusion.meaning E.Exclusion.told E.Exclusion.answers image.now.sizes m) }
+        ensures sound { IfOk result (λ m. Sound m.0) }
     {
-        let works = Works::boot(image, exclusion)?;
+        let mut exclusion = exclusion;
+        let core = boot_parts(image, &mut exclusion)?;
+        let works = Works { core, exclusion };
         Ok(Machine { works })
     }
 }
@@ -44,6 +49,7 @@ impl<E: Exclusion> Machine<E> {
     pub fn enlist(&mut self, thread: u64, operation: RawOperation) -> Result<(), Fault>
         ensures does { Step E.Exclusion.told E.Exclusion.answers self.old (Enlist thread operation) (accept_answer result) self.new }
         ensures faithful { StaysFaithful E.Exclusion.meaning E.Exclusion.told E.Exclusion.answers self.old (Enlist thread operation) (accept_answer result) self.new }
+        ensures stays_sound { Sound self.new.0 }
     {
         self.works.enlist(thread, operation)
     }
@@ -52,6 +58,7 @@ impl<E: Exclusion> Machine<E> {
     pub fn run(&mut self, cpu: u64) -> Result<Option<Settling>, Fault>
         ensures does { Step E.Exclusion.told E.Exclusion.answers self.old (Run cpu) (run_answer result) self.new }
         ensures faithful { StaysFaithful E.Exclusion.meaning E.Exclusion.told E.Exclusion.answers self.old (Run cpu) (run_answer result) self.new }
+        ensures stays_sound { Sound self.new.0 }
     {
         self.works.run(cpu)
     }
@@ -60,6 +67,7 @@ impl<E: Exclusion> Machine<E> {
     pub fn advance(&mut self, cpu: u64, instructions: u64) -> Result<(u64, Option<Settling>), Fault>
         ensures does { Step E.Exclusion.told E.Exclusion.answers self.old (Advance cpu instructions) (advance_answer result) self.new }
         ensures faithful { StaysFaithful E.Exclusion.meaning E.Exclusion.told E.Exclusion.answers self.old (Advance cpu instructions) (advance_answer result) self.new }
+        ensures stays_sound { Sound self.new.0 }
     {
         self.works.advance(cpu, instructions)
     }
@@ -68,6 +76,7 @@ impl<E: Exclusion> Machine<E> {
     pub fn switch(&mut self, cpu: u64, thread: u64) -> Result<(), Fault>
         ensures does { Step E.Exclusion.told E.Exclusion.answers self.old (Switch cpu thread) (accept_answer result) self.new }
         ensures faithful { StaysFaithful E.Exclusion.meaning E.Exclusion.told E.Exclusion.answers self.old (Switch cpu thread) (accept_answer result) self.new }
+        ensures stays_sound { Sound self.new.0 }
     {
         self.works.switch(cpu, thread)
     }
@@ -76,6 +85,7 @@ impl<E: Exclusion> Machine<E> {
     pub fn idle(&mut self, cpu: u64) -> Result<(), Fault>
         ensures does { Step E.Exclusion.told E.Exclusion.answers self.old (Idle cpu) (accept_answer result) self.new }
         ensures faithful { StaysFaithful E.Exclusion.meaning E.Exclusion.told E.Exclusion.answers self.old (Idle cpu) (accept_answer result) self.new }
+        ensures stays_sound { Sound self.new.0 }
     {
         self.works.idle(cpu)
     }
@@ -84,6 +94,7 @@ impl<E: Exclusion> Machine<E> {
     pub fn signal(&mut self, thread: u64, operation: RawOperation) -> Result<(), Fault>
         ensures does { Step E.Exclusion.told E.Exclusion.answers self.old (Signal thread operation) (accept_answer result) self.new }
         ensures faithful { StaysFaithful E.Exclusion.meaning E.Exclusion.told E.Exclusion.answers self.old (Signal thread operation) (accept_answer result) self.new }
+        ensures stays_sound { Sound self.new.0 }
     {
         self.works.signal(thread, operation)
     }
@@ -92,6 +103,7 @@ impl<E: Exclusion> Machine<E> {
     pub fn counter(&self, cpu: u64, counter: u64) -> Result<u64, Fault>
         ensures defined { result ≡ counter_told self.now.0 cpu counter }
         ensures as_the_ledger_holds { CounterOfTheLedger E.Exclusion.meaning E.Exclusion.told E.Exclusion.answers self.now cpu counter result }
+        ensures sound { Sound self.now.0 }
     {
         self.works.counter(cpu, counter)
     }
@@ -100,6 +112,7 @@ impl<E: Exclusion> Machine<E> {
     pub fn hand(&self, thread: u64) -> Result<Option<u64>, Fault>
         ensures defined { result ≡ hand_told self.now.0 thread }
         ensures as_the_ledger_holds { HandOfTheLedger E.Exclusion.meaning E.Exclusion.told E.Exclusion.answers self.now thread result }
+        ensures sound { Sound self.now.0 }
     {
         self.works.hand(thread)
     }
@@ -108,6 +121,7 @@ impl<E: Exclusion> Machine<E> {
     pub fn list_item(&self, cpu: u64, position: u64) -> Result<Option<u64>, Fault>
         ensures defined { result ≡ list_item_told self.now.0 cpu position }
         ensures as_the_ledger_holds { ListItemOfTheLedger E.Exclusion.meaning E.Exclusion.told E.Exclusion.answers self.now cpu position result }
+        ensures sound { Sound self.now.0 }
     {
         self.works.list_item(cpu, position)
     }
@@ -116,6 +130,7 @@ impl<E: Exclusion> Machine<E> {
     pub fn ring_item(&self, cpu: u64, position: u64) -> Result<Option<u64>, Fault>
         ensures defined { result ≡ ring_item_told self.now.0 cpu position }
         ensures as_the_ledger_holds { RingItemOfTheLedger E.Exclusion.meaning E.Exclusion.told E.Exclusion.answers self.now cpu position result }
+        ensures sound { Sound self.now.0 }
     {
         self.works.ring_item(cpu, position)
     }

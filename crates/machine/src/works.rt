@@ -1,21 +1,19 @@
 //! The works of a machine: its calls as their rules define them, over a state that is kept sound.
-ghost use Rattle.std.specs.Prelude.{◌≡◌, ℕ, ◌<◌, ◌≤◌, Ok, Err, MatchResult};
+ghost use Rattle.std.specs.Prelude.{◌≡◌, ℕ, ◌<◌, ◌≤◌};
 ghost use Rattle.calls.specs.declared.Call.TheVariants.{Advance, Enlist, Idle, Run, Signal, Switch};
 ghost use Rattle.lives.specs.Apart.{given_thread, with_frame};
 ghost use Rattle.faults.specs.declared.Refusal.TheVariants.{NoCpu, NoThread};
 ghost use Rattle.machine.specs.Promises.{CanBegin, CanChange, Changes, IndexBelow, Interrupts, Working, accept_answer, advance_answer, begin_checks, idle_checks, run_answer, switch_checks};
 ghost use Rattle.machine.specs.Sound.{Sound};
-ghost use Rattle.model.specs.Calls.{Stopped, Boots, Performs, Runs, Step, ToldIf};
+ghost use Rattle.model.specs.Calls.{Stopped, Performs, Runs, Step, ToldIf};
 ghost use Rattle.model.specs.State.{thread_at};
 ghost use Rattle.std.specs.Option.{unwrap_or};
 
 use crate::asking::{cpu_of, index_below, operation_of};
-use crate::boot::boot_parts;
 use crate::perform::{section_of, step};
 use calls::RawOperation;
 use exclusion::meaning::{Exclusion, Notice, tell};
 use faults::{Fault, Refusal};
-use image::checks::JobImage;
 use model::state::{Core, Frame, Operation, Settling};
 
 /// The state of a machine and its exclusion, which it tells and asks as its rules say. It keeps itself sound: what it uses as
@@ -33,17 +31,6 @@ fn tell_if<E: Exclusion>(exclusion: &mut E, notice: Option<Notice>)
 {
     if let Some(notice) = notice {
         tell(exclusion, notice);
-    }
-}
-
-impl<E: Exclusion + Drop> Works<E> {
-    /// Boots the works of a machine over an exclusion, or tells the fault of the first check that fails.
-    pub fn boot(image: &JobImage, exclusion: E) -> Result<Works<E>, Fault>
-        ensures does { MatchResult result (λ w. Boots E.Exclusion.told E.Exclusion.answers E.Exclusion.meaning image.now.sizes image.now.signature image.now.table.now image.now.text.now exclusion (Ok (w.core, w.exclusion))) (λ fault. Boots E.Exclusion.told E.Exclusion.answers E.Exclusion.meaning image.now.sizes image.now.signature image.now.table.now image.now.text.now exclusion (Err fault)) }
-    {
-        let mut exclusion = exclusion;
-        let core = boot_parts(image, &mut exclusion)?;
-        Ok(Works { core, exclusion })
     }
 }
 

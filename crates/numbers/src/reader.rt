@@ -25,6 +25,8 @@ impl Reader<'_> {
 
     /// The number whose spelling begins here. A number that breaks off and one that is not spelled as it should be are
     /// refused at their first byte, where the reader then stays.
+    // Set into its callers: most numbers are one byte, which is read faster than a call is made.
+    #[inline(always)]
     #[tactic(auto, using(crate::proofs::Read::start))]
     pub fn number(&mut self) -> Result<u64, Fault>
         ensures defined { ReadsAs number_at self.old result self.new }

@@ -16,6 +16,8 @@ pub const SCHEDULE_LENGTH: usize = 32768;
 
 /// Reads a number of the job: it is read whole and then held against its limits, beyond which boot refuses the job. On a
 /// fault the reader stays at the number.
+// Set into its callers, each of which knows the field and so its limits.
+#[inline(always)]
 pub fn read_field(reader: &mut Reader, field: Field) -> Result<u64, Fault>
     ensures defined { ReadsAs (λ bytes at. field_at bytes at field) reader.old result reader.new }
     ensures within_limits { IfOk result (λ n. (least field ≤ n) × (n ≤ largest field)) }
