@@ -49,6 +49,7 @@ impl<E: Exclusion> Machine<E> {
     pub fn enlist(&mut self, thread: u64, operation: RawOperation) -> Result<(), Fault>
         ensures does { Step E.Exclusion.told E.Exclusion.answers self.old (Enlist thread operation) (accept_answer result) self.new }
         ensures faithful { StaysFaithful E.Exclusion.meaning E.Exclusion.told E.Exclusion.answers self.old (Enlist thread operation) (accept_answer result) self.new }
+        ensures was_sound { Sound self.old.0 }
         ensures stays_sound { Sound self.new.0 }
     {
         self.works.enlist(thread, operation)
@@ -58,6 +59,7 @@ impl<E: Exclusion> Machine<E> {
     pub fn run(&mut self, cpu: u64) -> Result<Option<Settling>, Fault>
         ensures does { Step E.Exclusion.told E.Exclusion.answers self.old (Run cpu) (run_answer result) self.new }
         ensures faithful { StaysFaithful E.Exclusion.meaning E.Exclusion.told E.Exclusion.answers self.old (Run cpu) (run_answer result) self.new }
+        ensures was_sound { Sound self.old.0 }
         ensures stays_sound { Sound self.new.0 }
     {
         self.works.run(cpu)
@@ -67,6 +69,7 @@ impl<E: Exclusion> Machine<E> {
     pub fn advance(&mut self, cpu: u64, instructions: u64) -> Result<(u64, Option<Settling>), Fault>
         ensures does { Step E.Exclusion.told E.Exclusion.answers self.old (Advance cpu instructions) (advance_answer result) self.new }
         ensures faithful { StaysFaithful E.Exclusion.meaning E.Exclusion.told E.Exclusion.answers self.old (Advance cpu instructions) (advance_answer result) self.new }
+        ensures was_sound { Sound self.old.0 }
         ensures stays_sound { Sound self.new.0 }
     {
         self.works.advance(cpu, instructions)
@@ -76,6 +79,7 @@ impl<E: Exclusion> Machine<E> {
     pub fn switch(&mut self, cpu: u64, thread: u64) -> Result<(), Fault>
         ensures does { Step E.Exclusion.told E.Exclusion.answers self.old (Switch cpu thread) (accept_answer result) self.new }
         ensures faithful { StaysFaithful E.Exclusion.meaning E.Exclusion.told E.Exclusion.answers self.old (Switch cpu thread) (accept_answer result) self.new }
+        ensures was_sound { Sound self.old.0 }
         ensures stays_sound { Sound self.new.0 }
     {
         self.works.switch(cpu, thread)
@@ -85,6 +89,7 @@ impl<E: Exclusion> Machine<E> {
     pub fn idle(&mut self, cpu: u64) -> Result<(), Fault>
         ensures does { Step E.Exclusion.told E.Exclusion.answers self.old (Idle cpu) (accept_answer result) self.new }
         ensures faithful { StaysFaithful E.Exclusion.meaning E.Exclusion.told E.Exclusion.answers self.old (Idle cpu) (accept_answer result) self.new }
+        ensures was_sound { Sound self.old.0 }
         ensures stays_sound { Sound self.new.0 }
     {
         self.works.idle(cpu)
@@ -94,6 +99,7 @@ impl<E: Exclusion> Machine<E> {
     pub fn signal(&mut self, thread: u64, operation: RawOperation) -> Result<(), Fault>
         ensures does { Step E.Exclusion.told E.Exclusion.answers self.old (Signal thread operation) (accept_answer result) self.new }
         ensures faithful { StaysFaithful E.Exclusion.meaning E.Exclusion.told E.Exclusion.answers self.old (Signal thread operation) (accept_answer result) self.new }
+        ensures was_sound { Sound self.old.0 }
         ensures stays_sound { Sound self.new.0 }
     {
         self.works.signal(thread, operation)
